@@ -1,0 +1,40 @@
+-- Why a call is declined (document 01, "Why a call is declined, in checking order"), and the table of checks that finds it.
+use Prim.Native.Nat.{ℕ}
+use mathlib.Core.Bool.{Bool, true, false}
+use mathlib.Core.List.{List, [], _∷_}
+
+-- what a call answers: the value asked for, or the number of its decline
+pub data Answer (A : Type 0) : Type 0 where
+  taken : A → Answer A
+  declined : ℕ → Answer A
+
+-- 6: a length, kind, form, index, count, limit, order or zero place breaks the layout, floats aside
+abbrev pub layout : ℕ
+layout = 6
+
+-- 7: a float is not finite or outside its range
+abbrev pub range : ℕ
+range = 7
+
+-- 8: form 1 or 2 names a substance without a coefficient row
+abbrev pub noRow : ℕ
+noRow = 8
+
+-- 9: the loss exceeds 2,000,000 kg
+abbrev pub excess : ℕ
+excess = 9
+
+-- a test, and the number of the decline where it fails
+pub data Check : Type 0 where
+  check : Bool → ℕ → Check
+
+-- the first check that fails declines; where none fails, the value is taken
+unfoldable pub checked : {A : Type 0} → List Check → A → Answer A
+checked [] a = taken a
+checked (check true n ∷ rows) a = checked rows a
+checked (check false n ∷ rows) a = declined n
+
+-- what follows where an answer is taken; a decline stands
+abbrev pub onTaken : {A B : Type 0} → Answer A → (A → Answer B) → Answer B
+onTaken (taken a) next = next a
+onTaken (declined n) next = declined n

@@ -1,0 +1,72 @@
+-- Vapour losses (document 01, "Vapour losses"): "operations are f64, each rounded once, in the order bracketed".
+use Prim.Native.Nat.{ℕ, _^_}
+use mathlib.Core.Bool.{Bool}
+use mathlib.Core.List.{[], _∷_}
+use lib.Dec.{leb}
+use lib.Ieee.{Float, le}
+use Rattle.amounts.specs.Binary64.{decimal, whole, _⊗_, _⊘_, _⊕_}
+use Rattle.amounts.specs.Coefficient.{rowOf}
+use Rattle.amounts.specs.Decline as decline
+use Rattle.amounts.specs.Decline.{Answer, taken, declined, check, checked, onTaken, layout, excess}
+use Rattle.amounts.specs.Form.{isForm, rangesOf, inRanges, formAt}
+use Rattle.amounts.specs.Whole.{wholePart}
+use Rattle.amounts.specs.declared.coefficient.CoefficientRow.{CoefficientRow}
+use Rattle.amounts.specs.declared.form.LossForm.{LossForm}
+use Rattle.amounts.specs.declared.form.LossForm.the-variants.{FloatingRoof, FixedRoof, Station}
+use Rattle.amounts.specs.declared.loss.Kg.{Kg}
+use Rattle.amounts.specs.declared.loss.Kg.the-variants as kg
+use Rattle.amounts.specs.declared.loss.Loss as loss
+use Rattle.amounts.specs.declared.loss.Loss.the-variants.{Micrograms, Declined}
+
+-- form 1, floating roof (document 000, table 2.2): "((((k × (4 / w)) × M) / 22.4) × (u / 100)) × p"
+unfoldable pub floatingRoofKg : CoefficientRow → Float → Float → Float → Float
+floatingRoofKg row w u p = ((((row .k ⊗ (whole 4 ⊘ w)) ⊗ row .m) ⊘ decimal 224 10) ⊗ (u ⊘ whole 100)) ⊗ p
+
+-- form 2, filling a fixed roof (document 004): "(((0.041 × M) × w) × (u / p)) × q"
+unfoldable pub fixedRoofKg : CoefficientRow → Float → Float → Float → Float → Float
+fixedRoofKg row w u p q = (((decimal 41 1000 ⊗ row .m) ⊗ w) ⊗ (u ⊘ p)) ⊗ q
+
+-- form 3, station (document 004): "(w × u) + (p × q)"
+unfoldable pub stationKg : Float → Float → Float → Float → Float
+stationKg w u p q = (w ⊗ u) ⊕ (p ⊗ q)
+
+-- 8: form 1 or 2 without a coefficient row
+abbrev pub kgOf : LossForm → Answer CoefficientRow → Answer Float
+kgOf (FloatingRoof w u p) found = onTaken found (λ row. taken (floatingRoofKg row w u p))
+kgOf (FixedRoof w u p q) found = onTaken found (λ row. taken (fixedRoofKg row w u p q))
+kgOf (Station w u p q) found = taken (stationKg w u p q)
+
+-- "The loss in micrograms is kg × 10^9, one more rounding, without its fraction"
+abbrev pub microgramsOf : Float → ℕ
+microgramsOf x = wholePart (x ⊗ whole (10 ^ 9))
+
+-- 9: the loss exceeds 2,000,000 kg
+unfoldable pub weighedOf : Float → Answer ℕ
+unfolding checked
+weighedOf x = checked (check (le x (whole 2000000)) excess ∷ []) (microgramsOf x)
+
+-- a form's loss over the row found for its substance
+abbrev pub lossOf : LossForm → Answer CoefficientRow → Answer ℕ
+lossOf form found = onTaken (kgOf form found) weighedOf
+
+-- "declines a form .. or other whole number outside this paper's limits by 6; a loss is then declined by 7, 8 and 9 in that order"
+unfoldable pub vapourOf : ℕ → ℕ → Float → Float → Float → Float → Answer ℕ
+unfolding checked
+vapourOf form number w u p q =
+    onTaken
+    (checked
+    (check (isForm form) layout
+    ∷ check (leb 1 number) layout
+    ∷ check (inRanges (rangesOf form) w u p q) decline.range
+    ∷ [])
+    (formAt form w u p q))
+    (λ f. lossOf f (rowOf number))
+
+-- what each case of the code's answers stands for
+abbrev pub kgAnswer : Kg → Answer Float
+kgAnswer (kg.Value x) = taken x
+kgAnswer (kg.Declined d) = declined (d .number)
+
+abbrev pub answer : loss.Loss → Answer ℕ
+answer (Micrograms n) = taken n
+answer (Declined d) = declined (d .number)

@@ -1,0 +1,23 @@
+-- A float and its range (document 01, "Vapour losses", and decline 7).
+use mathlib.Core.Bool.{Bool, _&&_}
+use mathlib.Core.List.{[], _∷_}
+use lib.Ieee.{Float, le}
+use Rattle.amounts.specs.Binary64.{finite}
+use Rattle.amounts.specs.Decline as decline
+use Rattle.amounts.specs.Decline.{Answer, taken, declined, check, checked}
+use Rattle.amounts.specs.declared.pattern.Range.{Range}
+use Rattle.amounts.specs.declared.pattern.Reading.{Reading}
+use Rattle.amounts.specs.declared.pattern.Reading.the-variants.{Value, Declined}
+
+-- finite, and not outside: the ends belong to the range, and either sign of zero is 0
+abbrev pub inRange : Range → Float → Bool
+inRange range x = finite x && (le (range .low) x && le x (range .high))
+
+unfoldable pub readingOf : Range → Float → Answer Float
+unfolding checked
+readingOf range x = checked (check (inRange range x) decline.range ∷ []) x
+
+-- what each case of the code's answer stands for
+abbrev pub answer : Reading → Answer Float
+answer (Value x) = taken x
+answer (Declined d) = declined (d .number)

@@ -1,0 +1,73 @@
+// Coefficient rows, by management number.
+ghost use mathlib.Core.Path.{_≡_};
+ghost use Rattle.amounts.specs.Coefficient.{rowOf, answer};
+
+// k, and the molecular weight M.
+pub struct CoefficientRow {
+    pub k: f64,
+    pub m: f64,
+}
+
+pub struct Entry {
+    pub number: u16,
+    pub row: CoefficientRow,
+}
+
+pub enum Found {
+    Row(CoefficientRow),
+    NoRow,
+}
+
+// Document 000, tables 2.3 and 2.4; the numbers are document 004's.
+const ROWS: [Entry; 5] = [
+    Entry {
+        number: 53,
+        row: CoefficientRow {
+            k: 0.000083,
+            m: 106.2,
+        },
+    },
+    Entry {
+        number: 80,
+        row: CoefficientRow {
+            k: 0.000071,
+            m: 106.2,
+        },
+    },
+    Entry {
+        number: 300,
+        row: CoefficientRow {
+            k: 0.00026,
+            m: 92.1,
+        },
+    },
+    Entry {
+        number: 392,
+        row: CoefficientRow {
+            k: 0.00182,
+            m: 86.0,
+        },
+    },
+    Entry {
+        number: 400,
+        row: CoefficientRow {
+            k: 0.00089,
+            m: 78.1,
+        },
+    },
+];
+
+pub fn row_of(number: u16) -> Found
+    ensures { λ r. ⌜ answer r ≡ rowOf number ⌝ }
+{
+    let mut i = 0usize;
+    while i < 5 {
+        let e = ROWS[i];
+        if e.number == number {
+            let row = e.row;
+            return Found::Row(row);
+        }
+        i += 1;
+    }
+    Found::NoRow
+}

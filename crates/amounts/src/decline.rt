@@ -1,0 +1,18 @@
+// Why a call is declined, by document 01's number.
+
+// The number is a value and no variant, so that a number that comes later reopens no proof.
+pub struct Decline {
+    pub number: u8,
+}
+
+// A length, kind, form, index, count, limit, order or zero place breaks the layout, floats aside.
+pub const LAYOUT: Decline = Decline { number: 6 };
+
+// A float is not finite or outside its range.
+pub const RANGE: Decline = Decline { number: 7 };
+
+// Form 1 or 2 names a substance without a coefficient row.
+pub const NO_ROW: Decline = Decline { number: 8 };
+
+// The loss exceeds 2,000,000 kg.
+pub const EXCESS: Decline = Decline { number: 9 };

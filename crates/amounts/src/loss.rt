@@ -1,0 +1,110 @@
+// Vapour losses in kg and in micrograms.
+ghost use mathlib.Core.Path.{_≡_};
+ghost use Rattle.amounts.specs.Binary64.{valueOf};
+ghost use Rattle.amounts.specs.Coefficient as coefficients;
+ghost use Rattle.amounts.specs.Loss.{floatingRoofKg, fixedRoofKg, stationKg, kgOf, weighedOf, lossOf, vapourOf, kgAnswer, answer};
+use crate::coefficient;
+use crate::coefficient::CoefficientRow;
+use crate::coefficient::Found;
+use crate::decline;
+use crate::decline::Decline;
+use crate::form;
+use crate::form::FormRead;
+use crate::form::LossForm;
+use crate::whole;
+
+pub enum Kg {
+    Value(f64),
+    Declined(Decline),
+}
+
+pub enum Loss {
+    Micrograms(u64),
+    Declined(Decline),
+}
+
+pub fn floating_roof_kg(row: CoefficientRow, w: f64, u: f64, p: f64) -> f64
+    ensures { λ r. ⌜ r ≡ floatingRoofKg row w u p ⌝ }
+{
+    ((((row.k * (4.0 / w)) * row.m) / 22.4) * (u / 100.0)) * p
+}
+
+pub fn fixed_roof_kg(row: CoefficientRow, w: f64, u: f64, p: f64, q: f64) -> f64
+    ensures { λ r. ⌜ r ≡ fixedRoofKg row w u p q ⌝ }
+{
+    (((0.041 * row.m) * w) * (u / p)) * q
+}
+
+pub fn station_kg(w: f64, u: f64, p: f64, q: f64) -> f64
+    ensures { λ r. ⌜ r ≡ stationKg w u p q ⌝ }
+{
+    (w * u) + (p * q)
+}
+
+// The loss of a form in kg, over the row that was found for its substance.
+pub fn loss_kg(form: LossForm, found: Found) -> Kg
+    ensures { λ r. ⌜ kgAnswer r ≡ kgOf form (coefficients.answer found) ⌝ }
+{
+    match form {
+        LossForm::FloatingRoof {
+            diameter,
+            content,
+            drawn,
+        } => {
+            let Found::Row(row) = found else {
+                return Kg::Declined(decline::NO_ROW);
+            };
+            Kg::Value(floating_roof_kg(row, diameter, content, drawn))
+        }
+        LossForm::FixedRoof {
+            volume,
+            partial,
+            tank,
+            share,
+        } => {
+            let Found::Row(row) = found else {
+                return Kg::Declined(decline::NO_ROW);
+            };
+            Kg::Value(fixed_roof_kg(row, volume, partial, tank, share))
+        }
+        LossForm::Station {
+            received,
+            filling,
+            dispensed,
+            fueling,
+        } => { Kg::Value(station_kg(received, filling, dispensed, fueling)) }
+    }
+}
+
+// A loss in kg as micrograms.
+pub fn weigh(kg: f64) -> Loss
+    ensures { λ r. ⌜ answer r ≡ weighedOf kg ⌝ }
+{
+    if kg <= 2000000.0 {
+        return Loss::Micrograms(whole::whole_part(kg * 1000000000.0));
+    }
+    Loss::Declined(decline::EXCESS)
+}
+
+// The loss of a form in micrograms, over the row that was found for its substance.
+pub fn loss_of(form: LossForm, found: Found) -> Loss
+    ensures { λ r. ⌜ answer r ≡ lossOf form (coefficients.answer found) ⌝ }
+{
+    match loss_kg(form, found) {
+        Kg::Value(kg) => weigh(kg),
+        Kg::Declined(d) => Loss::Declined(d),
+    }
+}
+
+// The loss called alone: a form's number, a management number and four bit patterns.
+pub fn vapour_loss(form: u8, number: u16, w: u64, u: u64, p: u64, q: u64) -> Loss
+    ensures { λ r. ⌜ answer r ≡ vapourOf form number (valueOf w) (valueOf u) (valueOf p) (valueOf q) ⌝ }
+{
+    if number < 1 {
+        return Loss::Declined(decline::LAYOUT);
+    }
+    match form::read_form(form, w, u, p, q) {
+        FormRead::Form(f) => loss_of(f, coefficient::row_of(number)),
+        FormRead::Declined(d) => Loss::Declined(d),
+    }
+}

@@ -1,0 +1,34 @@
+// Floats from bit patterns that nobody vouches for.
+ghost use mathlib.Core.Path.{_≡_};
+ghost use Rattle.amounts.specs.Binary64.{valueOf};
+ghost use Rattle.amounts.specs.Pattern.{readingOf, answer};
+use crate::decline;
+use crate::decline::Decline;
+
+// Both ends belong to a range.
+pub struct Range {
+    pub low: f64,
+    pub high: f64,
+}
+
+pub enum Reading {
+    Value(f64),
+    Declined(Decline),
+}
+
+// The value of a pattern that is finite and in the range.
+pub fn read_float(bits: u64, range: Range) -> Reading
+    ensures { λ r. ⌜ answer r ≡ readingOf range (valueOf bits) ⌝ }
+{
+    // Without its sign, a pattern from 0x7ff0_0000_0000_0000 on is an infinity's or a NaN's.
+    if bits % 0x8000_0000_0000_0000 >= 0x7ff0_0000_0000_0000 {
+        return Reading::Declined(decline::RANGE);
+    }
+    let x = f64::from_bits(bits);
+    if range.low <= x {
+        if x <= range.high {
+            return Reading::Value(x);
+        }
+    }
+    Reading::Declined(decline::RANGE)
+}
