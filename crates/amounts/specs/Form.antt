@@ -1,12 +1,12 @@
 -- The three forms of a vapour loss (document 01, "Vapour losses"): their inputs and ranges.
 use Prim.Native.Nat.{ℕ, _^_}
 use mathlib.Core.Bool.{Bool, _&&_, cond}
-use mathlib.Core.List.{[], _∷_}
+use mathlib.Core.List.{List, [], _∷_}
 use lib.Dec.{eqb, leb}
 use lib.Ieee.{Float}
 use Rattle.amounts.specs.Binary64.{whole}
 use Rattle.amounts.specs.Decline as decline
-use Rattle.amounts.specs.Decline.{Answer, taken, declined, check, checked, layout}
+use Rattle.amounts.specs.Decline.{Answer, taken, declined, Check, check, checked, layout}
 use Rattle.amounts.specs.Pattern.{inRange}
 use Rattle.amounts.specs.declared.pattern.Range.{Range}
 use Rattle.amounts.specs.declared.form.Ranges.{Ranges}
@@ -48,10 +48,12 @@ unfoldable pub formAt : ℕ → Float → Float → Float → Float → LossForm
 formAt n w u p q = cond (eqb n 1) (FloatingRoof w u p) (cond (eqb n 2) (FixedRoof w u p q) (Station w u p q))
 
 -- "declines a form .. outside this paper's limits by 6; a loss is then declined by 7 .."
+abbrev pub formChecks : ℕ → Float → Float → Float → Float → List Check
+formChecks n w u p q = check (isForm n) layout ∷ check (inRanges (rangesOf n) w u p q) decline.range ∷ []
+
 unfoldable pub formOf : ℕ → Float → Float → Float → Float → Answer LossForm
 unfolding checked
-formOf n w u p q =
-    checked (check (isForm n) layout ∷ check (inRanges (rangesOf n) w u p q) decline.range ∷ []) (formAt n w u p q)
+formOf n w u p q = checked (formChecks n w u p q) (formAt n w u p q)
 
 -- what each case of the code's answer stands for
 abbrev pub answer : FormRead → Answer LossForm

@@ -6,9 +6,8 @@ use lib.Dec.{leb}
 use lib.Ieee.{Float, le}
 use Rattle.amounts.specs.Binary64.{decimal, whole, _⊗_, _⊘_, _⊕_}
 use Rattle.amounts.specs.Coefficient.{rowOf}
-use Rattle.amounts.specs.Decline as decline
 use Rattle.amounts.specs.Decline.{Answer, taken, declined, check, checked, onTaken, layout, excess}
-use Rattle.amounts.specs.Form.{isForm, rangesOf, inRanges, formAt}
+use Rattle.amounts.specs.Form.{formAt, formChecks}
 use Rattle.amounts.specs.Whole.{wholePart}
 use Rattle.amounts.specs.declared.coefficient.CoefficientRow.{CoefficientRow}
 use Rattle.amounts.specs.declared.form.LossForm.{LossForm}
@@ -46,21 +45,15 @@ unfolding checked
 weighedOf x = checked (check (le x (whole 2000000)) excess ∷ []) (microgramsOf x)
 
 -- a form's loss over the row found for its substance
-abbrev pub lossOf : LossForm → Answer CoefficientRow → Answer ℕ
+unfoldable pub lossOf : LossForm → Answer CoefficientRow → Answer ℕ
+unfolding weighedOf
 lossOf form found = onTaken (kgOf form found) weighedOf
 
 -- "declines a form .. or other whole number outside this paper's limits by 6; a loss is then declined by 7, 8 and 9 in that order"
 unfoldable pub vapourOf : ℕ → ℕ → Float → Float → Float → Float → Answer ℕ
 unfolding checked
 vapourOf form number w u p q =
-    onTaken
-    (checked
-    (check (isForm form) layout
-    ∷ check (leb 1 number) layout
-    ∷ check (inRanges (rangesOf form) w u p q) decline.range
-    ∷ [])
-    (formAt form w u p q))
-    (λ f. lossOf f (rowOf number))
+    onTaken (checked (check (leb 1 number) layout ∷ formChecks form w u p q) (formAt form w u p q)) (λ f. lossOf f (rowOf number))
 
 -- what each case of the code's answers stands for
 abbrev pub kgAnswer : Kg → Answer Float

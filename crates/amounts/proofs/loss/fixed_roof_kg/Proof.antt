@@ -1,0 +1,15 @@
+use Rattle.amounts.specs.Loss.{fixedRoofKg}
+use lib.Ieee.{ofBits, round}
+use mathlib.Core.Path.{refl}
+use Rattle.amounts.proofs.loss.fixed_roof_kg.Statement.{statement}
+use Rattle.amounts.proofs.loss.fixed_roof_kg.Tie as tie
+use Rattle.amounts.proofs.loss.fixed_roof_kg.Reads as reads
+use Rattle.amounts.proofs.loss.fixed_roof_kg.Lts as lts
+
+-- src/loss.rt:32:1
+returns : tie.Need-returns
+unfolding fixedRoofKg ofBits round
+returns c = refl
+
+pub fixed-roof-kg-spec : {M : Type 1} → statement M
+fixed-roof-kg-spec = tie.close (tie.spec returns)
