@@ -10,3 +10,4 @@ pub mod Coefficient
 pub mod Form
 pub mod Whole
 pub mod Loss
+pub mod Figures
