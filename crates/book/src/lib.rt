@@ -1,0 +1,8 @@
+// The book of one site for one year: its set-up, its posts and its reports.
+pub mod answer;
+pub mod bytes;
+pub mod ledger;
+pub mod outline;
+pub mod setup;
+pub mod site;
+pub mod stage;

@@ -1,0 +1,79 @@
+// The book of a site, by value: what the set-up says, and what the posts have come to.
+ghost use mathlib.Core.Path.{_≡_};
+ghost use Rattle.book.specs.Site.{freshSetup, freshBook, Sound};
+use crate::outline::Outline;
+
+// A pair's side and rates in ppm, of a stage and a substance.
+pub struct Rates {
+    pub side: u8,
+    pub gas_removal: u32,
+    pub gas_destruction: u32,
+    pub water_removal: u32,
+    pub water_destruction: u32,
+}
+
+// What the set-up blocks say. Contents are kept as counted: for the material m and the substance s at m * 8 + s. Rates stand
+// at stage * 8 + substance.
+pub struct Setup {
+    pub(crate) outline: Outline,
+    pub(crate) numbers: [u16; 8],
+    pub(crate) classes: [u8; 8],
+    pub(crate) counted: [u32; 96],
+    pub(crate) water_to: [u8; 8],
+    pub(crate) residue_to: [u8; 8],
+    pub(crate) rates: [Rates; 64],
+}
+
+// The store in grams by material; the ledger's sums in micrograms, at account * 64 + stage * 8 + substance; and what was
+// handled of each substance.
+pub struct Book {
+    pub(crate) setup: Setup,
+    pub(crate) store: [u64; 12],
+    pub(crate) sums: [u64; 576],
+    pub(crate) handled: [u64; 8],
+    pub(crate) posts: u32,
+    pub(crate) blocks: u32,
+    pub(crate) closed: bool,
+}
+
+pub(crate) const NO_RATES: Rates = Rates {
+    side: 0,
+    gas_removal: 0,
+    gas_destruction: 0,
+    water_removal: 0,
+    water_destruction: 0,
+};
+
+fn fresh_setup() -> Setup
+    ensures { λ r. ⌜ r ≡ freshSetup ⌝ }
+{
+    Setup {
+        outline: Outline {
+            substances: 0,
+            materials: 0,
+            stages: 0,
+            described: 0,
+        },
+        numbers: [0; 8],
+        classes: [0; 8],
+        counted: [0; 96],
+        water_to: [0; 8],
+        residue_to: [0; 8],
+        rates: [NO_RATES; 64],
+    }
+}
+
+pub fn fresh() -> Book
+    ensures { λ r. ⌜ r ≡ freshBook ⌝ }
+    ensures { λ r. ⌜ Sound r ⌝ }
+{
+    Book {
+        setup: fresh_setup(),
+        store: [0; 12],
+        sums: [0; 576],
+        handled: [0; 8],
+        posts: 0,
+        blocks: 0,
+        closed: false,
+    }
+}
