@@ -129,7 +129,8 @@ pub const UNUSED: Ranges = Ranges {
     },
 };
 
-fn ranges_of(form: u8) -> Ranges
+// The ranges of a form's four floats.
+pub fn ranges_of(form: u8) -> Ranges
     ensures { λ r. ⌜ r ≡ rangesOf form ⌝ }
 {
     if form == 1 {
@@ -141,7 +142,8 @@ fn ranges_of(form: u8) -> Ranges
     STATION
 }
 
-fn form_at(form: u8, x: Inputs) -> LossForm
+// The form of a number from 1 to 3 with its own inputs.
+pub fn form_at(form: u8, x: Inputs) -> LossForm
     ensures { λ r. ⌜ r ≡ formAt form (x .w) (x .u) (x .p) (x .q) ⌝ }
 {
     if form == 1 {

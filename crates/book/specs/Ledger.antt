@@ -63,6 +63,10 @@ moved sums from to n =
 abbrev pub raised : (ℕ → ℕ) → (ℕ → ℕ) → List ℕ → ℕ → List ℕ
 raised place amount l n = putTo place (λ k. getD l (place k) 0 + amount k) l n
 
+-- "g times counted content", of the material m and the substance s
+abbrev pub brings : List ℕ → ℕ → ℕ → ℕ → ℕ
+brings counted m g s = g * getD counted (m * 8 + s) 0
+
 abbrev pub noRates : Rates
 noRates = record { side = 0; «gas_removal» = 0; «gas_destruction» = 0; «water_removal» = 0; «water_destruction» = 0 }
 

@@ -6,3 +6,7 @@ pub mod Site
 pub mod Answer
 pub mod Setup
 pub mod Stage
+pub mod Post
+pub mod Posting
+pub mod Report
+pub mod Reporting

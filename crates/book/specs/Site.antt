@@ -4,7 +4,7 @@ use mathlib.Core.Path.{_≡_}
 use mathlib.Core.Bool.{true, false}
 use mathlib.Core.List.{List}
 use lib.ListN.{length, getD, replicate}
-use Rattle.book.specs.Ledger.{noRates, total}
+use Rattle.book.specs.Ledger.{brings, noRates, total}
 use Rattle.book.specs.Outline.{mayPost}
 use Rattle.book.specs.Each.{sumTo}
 use Rattle.book.specs.declared.outline.Outline.{Outline}
@@ -42,7 +42,7 @@ freshBook =
 
 -- "store grams times counted content", over the first k materials
 abbrev pub storedTo : List ℕ → List ℕ → ℕ → ℕ → ℕ
-storedTo store counted s k = sumTo k (λ m. getD store m 0 * getD counted (m * 8 + s) 0)
+storedTo store counted s k = sumTo k (λ m. brings counted m (getD store m 0) s)
 
 abbrev pub stored : Book → ℕ → ℕ
 stored b s = storedTo (b .store) (b .setup .counted) s 12

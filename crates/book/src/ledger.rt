@@ -1,8 +1,8 @@
 // The ledger's sums, lent to the functions that move amounts in them.
 ghost use mathlib.Core.Path.{_≡_};
-ghost use Prim.Native.Nat.{ℕ, _^_, _+_, _-_, _*_, _≤_, _<_};
+ghost use Prim.Native.Nat.{ℕ, _^_, _+_, _-_, _≤_, _<_};
 ghost use lib.ListN.{length, getD, set};
-ghost use Rattle.book.specs.Ledger.{held, at, cellOf, total, moved, raised, closesTo, settled};
+ghost use Rattle.book.specs.Ledger.{held, cellOf, total, moved, raised, brings, closesTo, settled};
 use crate::site::Rates;
 
 pub(crate) const HELD: usize = 0;
@@ -33,27 +33,35 @@ pub(crate) fn shift(sums: &mut [u64; 576], from: usize, to: usize, amount: u64)
     sums[to] = sums[to] + amount;
 }
 
-// What grams of a material bring of each substance goes to a stage's holdings and to what was handled.
-pub(crate) fn issue(
+// What grams of a material bring of each substance goes to a stage's holdings.
+pub(crate) fn hold(
     sums: &mut [u64; 576],
-    handled: &mut [u64; 8],
     counted: &[u32; 96],
     material: usize,
     stage: usize,
     grams: u64,
 )
     requires { ⌜ (material < 12) × (stage < 8) × (grams ≤ 2000000000) ⌝ }
-    requires { ⌜ ((s : ℕ) → s < 8 → getD (now sums) (cellOf held stage s) 0 + grams * getD (now counted) (material * 8 + s) 0 < 2 ^ 64) ⌝ }
-    requires { ⌜ ((s : ℕ) → s < 8 → getD (now handled) s 0 + grams * getD (now counted) (material * 8 + s) 0 < 2 ^ 64) ⌝ }
-    ensures { λ r. ⌜ now (sums .exit) ≡ raised (cellOf held stage) (λ s. grams * getD (now (counted .entry)) (material * 8 + s) 0) (now (sums .entry)) 8 ⌝ }
-    ensures { λ r. ⌜ now (handled .exit) ≡ raised (λ s. s) (λ s. grams * getD (now (counted .entry)) (material * 8 + s) 0) (now (handled .entry)) 8 ⌝ }
+    requires { ⌜ ((s : ℕ) → s < 8 → getD (now sums) (cellOf held stage s) 0 + brings (now counted) material grams s < 2 ^ 64) ⌝ }
+    ensures { λ r. ⌜ now (sums .exit) ≡ raised (cellOf held stage) (brings (now (counted .entry)) material grams) (now (sums .entry)) 8 ⌝ }
 {
     let mut s: usize = 0;
     while s < 8 {
         let at = HELD * 64 + (stage * 8 + s);
-        let amount = grams * (counted[material * 8 + s] as u64);
-        sums[at] = sums[at] + amount;
-        handled[s] = handled[s] + amount;
+        sums[at] = sums[at] + grams * (counted[material * 8 + s] as u64);
+        s += 1;
+    }
+}
+
+// The same goes to what was handled.
+pub(crate) fn handle(handled: &mut [u64; 8], counted: &[u32; 96], material: usize, grams: u64)
+    requires { ⌜ (material < 12) × (grams ≤ 2000000000) ⌝ }
+    requires { ⌜ ((s : ℕ) → s < 8 → getD (now handled) s 0 + brings (now counted) material grams s < 2 ^ 64) ⌝ }
+    ensures { λ r. ⌜ now (handled .exit) ≡ raised (λ s. s) (brings (now (counted .entry)) material grams) (now (handled .entry)) 8 ⌝ }
+{
+    let mut s: usize = 0;
+    while s < 8 {
+        handled[s] = handled[s] + grams * (counted[material * 8 + s] as u64);
         s += 1;
     }
 }

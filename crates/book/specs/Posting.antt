@@ -1,0 +1,130 @@
+-- A post on a book (document 01, "Posts" and "Why a call is declined, in checking order", 4 to 11).
+use Prim.Native.Nat.{ℕ, _+_, _-_, _*_, _≤_, _<_}
+use mathlib.Core.Path.{_≡_}
+use mathlib.Core.Bool.{Bool, true, not, _||_, _&&_, cond}
+use mathlib.Core.List.{List, [], _∷_, _++_}
+use lib.Dec.{eqb, leb, ltb}
+use lib.ListN.{getD, set}
+use Rattle.amounts.specs.Decline as number
+use Rattle.amounts.specs.Decline.{Answer, taken, declined, Check, check, checked, isTaken}
+use Rattle.book.specs.Ledger.{held, accountOf, cellOf, cell, moved, raised, brings, settled}
+use Rattle.book.specs.Outline.{mayPost}
+use Rattle.book.specs.Post.{postAt, layoutFits, isVapour, isClose, floatsFit, kgFor, lossFor, amountOf}
+use Rattle.book.specs.declared.outline.Outline.{Outline}
+use Rattle.book.specs.declared.post.Post.{Post}
+use Rattle.book.specs.declared.posting.Reading.{Reading}
+use Rattle.book.specs.declared.posting.ReadingAnswer.{ReadingAnswer}
+use Rattle.book.specs.declared.posting.ReadingAnswer.the-variants as read
+use Rattle.book.specs.declared.site.Book.{Book}
+
+-- ---- what an accepted post does
+
+abbrev pub withPost : Book → List ℕ → List ℕ → List ℕ → Bool → Book
+withPost b store sums handled closed =
+    record {
+      setup = b .setup;
+      store = store;
+      sums = sums;
+      handled = handled;
+      posts = b .posts + 1;
+      blocks = b .blocks;
+      closed = closed;
+    }
+
+-- "1 opening, 2 bought: material, g. The store of that material grows."
+abbrev pub received : Book → ℕ → ℕ → Book
+received b m g = withPost b (set (b .store) m (getD (b .store) m 0 + g)) (b .sums) (b .handled) (b .closed)
+
+-- "3 issued: material, stage, g. The store falls; the stage's holding of each substance grows by g times counted content."
+abbrev pub issued : Book → ℕ → ℕ → ℕ → Book
+issued b m stage g =
+    withPost b (set (b .store) m (getD (b .store) m 0 - g))
+    (raised (cellOf held stage) (brings (b .setup .counted) m g) (b .sums) 8)
+    (raised (λ s. s) (brings (b .setup .counted) m g) (b .handled) 8)
+    (b .closed)
+
+-- "4 formed: stage, substance, micrograms in quantity. The holding grows."
+abbrev pub formed : Book → ℕ → ℕ → ℕ → Book
+formed b stage s n =
+    withPost b (b .store) (set (b .sums) (cellOf held stage s) (cell (b .sums) held stage s + n)) (set (b .handled) s (getD (b .handled) s 0 + n)) (b .closed)
+
+-- 5 to 11: "The holding falls by g times content, which is added under that name." 12: "The holding falls by the loss, which goes to air untreated."
+abbrev pub transferred : Book → ℕ → ℕ → ℕ → ℕ → Book
+transferred b account stage s n =
+    withPost b (b .store) (moved (b .sums) (cellOf held stage s) (cellOf account stage s) n) (b .handled) (b .closed)
+
+-- "13 close. Each holding moves to gas or waste water, by that pair's side, and no post follows."
+abbrev pub closedBook : Book → Book
+closedBook b = withPost b (b .store) (settled (b .sums) (b .setup .rates) 64) (b .handled) true
+
+unfoldable pub applied : Book → Post → ℕ → Book
+applied b p n =
+    cond (leb (p .kind) 2) (received b (p .material) (p .quantity))
+    (cond (eqb (p .kind) 3) (issued b (p .material) (p .stage) (p .quantity))
+    (cond (eqb (p .kind) 4) (formed b (p .stage) (p .substance) n)
+    (cond (leb (p .kind) 12) (transferred b (accountOf (p .kind)) (p .stage) (p .substance) n)
+    (closedBook b))))
+
+-- ---- the checks
+
+-- 4 to 9: what the outline of the set-up, its management numbers and the post's own bytes tell
+abbrev pub readChecks : Outline → List ℕ → Bool → List ℕ → List Check
+readChecks o numbers closed s =
+    check (mayPost o) number.turn
+    ∷ check (not closed) number.closed
+    ∷ check (layoutFits o s) number.layout
+    ∷ check (floatsFit (postAt s)) number.range
+    ∷ check (isTaken (kgFor numbers (postAt s))) number.noRow
+    ∷ check (isTaken (lossFor numbers (postAt s))) number.excess
+    ∷ []
+
+-- "4,000 posts are accepted and this isn't the close"
+abbrev pub hasRoom : ℕ → Post → Bool
+hasRoom posts p = isClose p || ltb posts 4000
+
+-- what leaves a store or a holding is there
+abbrev pub isThere : List ℕ → List ℕ → Post → ℕ → Bool
+isThere store sums p n =
+    cond (eqb (p .kind) 3) (leb (p .quantity) (getD store (p .material) 0))
+    (cond (leb 5 (p .kind) && leb (p .kind) 12) (leb n (cell sums held (p .stage) (p .substance)))
+    true)
+
+-- 10 and 11: what the book holds
+abbrev pub bookChecks : Book → Post → ℕ → List Check
+bookChecks b p n =
+    check (hasRoom (b .posts) p) number.full
+    ∷ check (isThere (b .store) (b .sums) p n) number.short
+    ∷ []
+
+unfoldable pub postOn : Book → List ℕ → Answer Book
+unfolding checked applied
+postOn b s =
+    let p = postAt s in
+    let n = amountOf (b .setup .numbers) p in
+    checked (readChecks (b .setup .outline) (b .setup .numbers) (b .closed) s ++ bookChecks b p n) (applied b p n)
+
+-- ---- a post as read: 4 to 9 passed
+
+unfoldable pub readOf : Outline → List ℕ → Bool → List ℕ → Answer Reading
+unfolding checked
+readOf o numbers closed s =
+    checked (readChecks o numbers closed s) (record { post = postAt s; amount = amountOf numbers (postAt s) })
+
+-- what each case of the code's answer stands for
+abbrev pub readAnswer : ReadingAnswer → Answer Reading
+readAnswer (read.Read r) = taken r
+readAnswer (read.Declined d) = declined (d .number)
+
+-- ---- what passing the checks tells of a post that is applied
+
+pub record Applies (b : Book) (p : Post) (n : ℕ) : Type 0 where
+  pub material : p .material < 12
+  pub stage : p .stage < 8
+  pub substance : p .substance < 8
+  pub grams : p .kind ≤ 3 → p .quantity ≤ 2000000000
+  pub amount : n ≤ 2000000000000000
+  pub issued : p .kind ≡ 3 → p .quantity ≤ getD (b .store) (p .material) 0
+  pub leaves : 5 ≤ p .kind → p .kind ≤ 12 → n ≤ cell (b .sums) held (p .stage) (p .substance)
+  pub room : p .kind ≤ 12 → b .posts < 4000
+  pub kinds : (1 ≤ p .kind) × (p .kind ≤ 13)
+  pub closing : b .posts ≤ 4000

@@ -1,0 +1,133 @@
+-- The report of a substance (document 01, "Treatment and report").
+use Prim.Native.Nat.{ℕ, _+_, _*_}
+use mathlib.Core.Bool.{Bool, true, false, cond}
+use mathlib.Core.List.{List, [], _∷_}
+use lib.Dec.{eqb, ltb}
+use lib.ListN.{getD}
+use Rattle.amounts.specs.Decline.{Answer, taken, declined, check, checked, valueOr, unknown}
+use Rattle.amounts.specs.Filed.{filedOf, stepOf}
+use Rattle.amounts.specs.Threshold.{dueOf}
+use Rattle.amounts.specs.Treatment.{partsOf}
+use Rattle.amounts.specs.declared.treatment.Parts.{Parts}
+use Rattle.book.specs.Each.{sumTo}
+use Rattle.book.specs.Ledger.{held, shipped, offSite, landfill, soil, consumed, gas, water, vapour, cell, noRates}
+use Rattle.book.specs.Site.{stored}
+use Rattle.book.specs.declared.report.Filing.{Filing}
+use Rattle.book.specs.declared.report.Filing.the-variants.{Figures, NotDue}
+use Rattle.book.specs.declared.report.Headings.{Headings}
+use Rattle.book.specs.declared.report.Line.{Line}
+use Rattle.book.specs.declared.report.Report.{Report}
+use Rattle.book.specs.declared.report.Reported as reported
+use Rattle.book.specs.declared.report.Reported.the-variants.{Known, Declined}
+use Rattle.book.specs.declared.site.Book.{Book}
+use Rattle.book.specs.declared.site.Rates.{Rates}
+use Rattle.book.specs.declared.site.Setup.{Setup}
+
+-- an amount where a destination is the one asked for
+abbrev pub atOne : ℕ → ℕ → ℕ
+atOne destination n = cond (eqb destination 1) n 0
+
+abbrev pub atTwo : ℕ → ℕ → ℕ
+atTwo destination n = cond (eqb destination 1) 0 n
+
+-- A stage and a substance: its rates, and the split of its gas and of its waste water, "made on the year's totals, at the report".
+abbrev pub ratesOf : Setup → ℕ → ℕ → Rates
+ratesOf u stage s = getD (u .rates) (stage * 8 + s) noRates
+
+abbrev pub gasParts : List ℕ → Setup → ℕ → ℕ → Parts
+gasParts sums u s stage =
+    let r = ratesOf u stage s in
+    partsOf (cell sums gas stage s) (r .«gas_removal») (r .«gas_destruction»)
+
+abbrev pub waterParts : List ℕ → Setup → ℕ → ℕ → Parts
+waterParts sums u s stage =
+    let r = ratesOf u stage s in
+    partsOf (cell sums water stage s) (r .«water_removal») (r .«water_destruction»)
+
+abbrev pub residues : List ℕ → Setup → ℕ → ℕ → ℕ
+residues sums u s stage = gasParts sums u s stage .residue + waterParts sums u s stage .residue
+
+-- Of a stage: "air (gas released and vapour), public water, soil, landfill, sewer, off site. Treated water goes to public water or sewer, residues to
+-- off site or landfill, as the stage says": 1 public water, 2 sewer; 1 off site, 2 landfill.
+abbrev pub stageHeadings : List ℕ → Setup → ℕ → ℕ → Headings
+stageHeadings sums u s stage =
+    record {
+      air = gasParts sums u s stage .released + cell sums vapour stage s;
+      water = atOne (getD (u .«water_to») stage 0) (waterParts sums u s stage .released);
+      soil = cell sums soil stage s;
+      land = cell sums landfill stage s + atTwo (getD (u .«residue_to») stage 0) (residues sums u s stage);
+      sewer = atTwo (getD (u .«water_to») stage 0) (waterParts sums u s stage .released);
+      offsite = cell sums offSite stage s + atOne (getD (u .«residue_to») stage 0) (residues sums u s stage);
+    }
+
+abbrev pub stageLine : List ℕ → Setup → ℕ → ℕ → Line
+stageLine sums u s stage =
+    record {
+      held = cell sums held stage s;
+      shipped = cell sums shipped stage s;
+      consumed = cell sums consumed stage s;
+      destroyed = gasParts sums u s stage .destroyed + waterParts sums u s stage .destroyed;
+      headings = stageHeadings sums u s stage;
+    }
+
+-- "Per substance, over all stages": here over the first n
+unfoldable pub lineTo : List ℕ → Setup → ℕ → ℕ → Line
+lineTo sums u s n =
+    record {
+      held = sumTo n (λ k. stageLine sums u s k .held);
+      shipped = sumTo n (λ k. stageLine sums u s k .shipped);
+      consumed = sumTo n (λ k. stageLine sums u s k .consumed);
+      destroyed = sumTo n (λ k. stageLine sums u s k .destroyed);
+      headings =
+          record {
+            air = sumTo n (λ k. stageHeadings sums u s k .air);
+            water = sumTo n (λ k. stageHeadings sums u s k .water);
+            soil = sumTo n (λ k. stageHeadings sums u s k .soil);
+            land = sumTo n (λ k. stageHeadings sums u s k .land);
+            sewer = sumTo n (λ k. stageHeadings sums u s k .sewer);
+            offsite = sumTo n (λ k. stageHeadings sums u s k .offsite);
+          };
+    }
+
+-- all six headings, and all that a report shows without the store
+abbrev pub sixOf : Headings → ℕ
+sixOf h = h .air + h .water + h .soil + h .land + h .sewer + h .offsite
+
+abbrev pub weigh : Line → ℕ
+weigh x = x .held + x .shipped + x .consumed + x .destroyed + sixOf (x .headings)
+
+-- each heading through a function
+abbrev pub mapHeadings : (ℕ → ℕ) → Headings → Headings
+mapHeadings f h =
+    record { air = f (h .air); water = f (h .water); soil = f (h .soil); land = f (h .land); sewer = f (h .sewer); offsite = f (h .offsite) }
+
+-- "A filed figure is the heading's amount rounded half up to a step"; "A substance not due has no filed figures."
+abbrev pub filingOf : Bool → Headings → Filing
+filingOf true h = Figures (mapHeadings filedOf h)
+filingOf false h = NotDue
+
+abbrev pub dueIn : Book → ℕ → Bool
+dueIn b s = valueOr false (dueOf (getD (b .setup .classes) s 0) (getD (b .handled) s 0))
+
+abbrev pub reportAt : Book → ℕ → Report
+reportAt b s =
+    let line = lineTo (b .sums) (b .setup) s 8 in
+    record {
+      posts = b .posts;
+      number = getD (b .setup .numbers) s 0;
+      handled = getD (b .handled) s 0;
+      due = dueIn b s;
+      store = stored b s;
+      line = line;
+      filed = filingOf (dueIn b s) (line .headings);
+    }
+
+-- "declined by 12 alone, never for a substance that the book has"
+unfoldable pub reportOf : Book → ℕ → Answer Report
+unfolding checked lineTo
+reportOf b s = checked (check (ltb s (b .setup .outline .substances)) unknown ∷ []) (reportAt b s)
+
+-- what each case of the code's answer stands for
+abbrev pub answer : reported.Reported → Answer Report
+answer (Known r) = taken r
+answer (Declined d) = declined (d .number)

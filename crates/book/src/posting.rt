@@ -1,0 +1,200 @@
+// A post on a book: read it, see that the book has what leaves it, and apply it.
+ghost use mathlib.Core.Path.{_≡_};
+ghost use Prim.Native.Nat.{_≤_, _<_};
+ghost use lib.ListN.{getD};
+ghost use Rattle.book.specs.Answer.{outcome};
+ghost use Rattle.book.specs.Ledger.{held, cell};
+ghost use Rattle.book.specs.Posting.{received, issued, formed, transferred, closedBook, applied, hasRoom, isThere, postOn, readOf, readAnswer, Applies};
+ghost use Rattle.book.specs.Site.{Sound};
+use crate::answer;
+use crate::answer::Answered;
+use crate::answer::Verdict;
+use crate::ledger;
+use crate::ledger::HELD;
+use crate::outline;
+use crate::outline::Outline;
+use crate::post;
+use crate::post::Post;
+use crate::post::PostRead;
+use crate::site::Book;
+use amounts::decline;
+use amounts::decline::Decline;
+use amounts::form::InputsRead;
+use amounts::loss::Loss;
+
+// A post, and the micrograms that it brings or moves.
+pub struct Reading {
+    pub post: Post,
+    pub amount: u64,
+}
+
+pub enum ReadingAnswer {
+    Read(Reading),
+    Declined(Decline),
+}
+
+fn read(o: Outline, numbers: &[u16; 8], closed: bool, s: &[u8]) -> ReadingAnswer
+    requires { ⌜ o .substances ≤ 8 ⌝ }
+    ensures { λ r. ⌜ readAnswer r ≡ readOf o (now (numbers .entry)) closed (now (s .entry)) ⌝ }
+{
+    if !outline::may_post(o) {
+        return ReadingAnswer::Declined(decline::TURN);
+    }
+    if closed {
+        return ReadingAnswer::Declined(decline::CLOSED);
+    }
+    let PostRead::Post(p) = post::read_post(o, s) else {
+        return ReadingAnswer::Declined(decline::LAYOUT);
+    };
+    let InputsRead::Values(x) = post::read_floats(p) else {
+        return ReadingAnswer::Declined(decline::RANGE);
+    };
+    match post::loss_for(numbers, p, x) {
+        Loss::Micrograms(loss) => ReadingAnswer::Read(Reading {
+            post: p,
+            amount: post::amount(p, loss),
+        }),
+        Loss::Declined(d) => ReadingAnswer::Declined(d),
+    }
+}
+
+fn has_room(posts: u32, p: Post) -> bool
+    ensures { λ r. ⌜ r ≡ hasRoom posts p ⌝ }
+{
+    if p.kind == 13 {
+        return true;
+    }
+    posts < 4000
+}
+
+fn is_there<'a>(store: &'a [u64; 12], sums: &'a [u64; 576], p: Post, amount: u64) -> bool
+    requires { ⌜ (p .material < 12) × (p .stage < 8) × (p .substance < 8) ⌝ }
+    ensures { λ r. ⌜ r ≡ isThere (now (store .entry)) (now (sums .entry)) p amount ⌝ }
+{
+    if p.kind == 3 {
+        return p.quantity <= store[p.material as usize];
+    }
+    if p.kind < 5 {
+        return true;
+    }
+    if p.kind > 12 {
+        return true;
+    }
+    let pair = (p.stage as usize) * 8 + (p.substance as usize);
+    amount <= sums[HELD * 64 + pair]
+}
+
+fn receive(b: Book, material: usize, grams: u64) -> Book
+    requires { ⌜ Sound b ⌝ }
+    requires { ⌜ (material < 12) × (grams ≤ 2000000000) × (b .posts < 4000) ⌝ }
+    ensures { λ r. ⌜ r ≡ received b material grams ⌝ }
+{
+    let mut c = b;
+    c.store[material] = c.store[material] + grams;
+    c.posts = c.posts + 1;
+    c
+}
+
+fn issue(b: Book, material: usize, stage: usize, grams: u64) -> Book
+    requires { ⌜ Sound b ⌝ }
+    requires { ⌜ (material < 12) × (stage < 8) × (grams ≤ 2000000000) × (grams ≤ getD (b .store) material 0) × (b .posts < 4000) ⌝ }
+    ensures { λ r. ⌜ r ≡ issued b material stage grams ⌝ }
+{
+    let setup = b.setup;
+    let counted = setup.counted;
+    let mut c = b;
+    ledger::hold(&mut c.sums, &counted, material, stage, grams);
+    ledger::handle(&mut c.handled, &counted, material, grams);
+    c.store[material] = c.store[material] - grams;
+    c.posts = c.posts + 1;
+    c
+}
+
+fn form(b: Book, stage: usize, substance: usize, amount: u64) -> Book
+    requires { ⌜ Sound b ⌝ }
+    requires { ⌜ (stage < 8) × (substance < 8) × (amount ≤ 2000000000000000) × (b .posts < 4000) ⌝ }
+    ensures { λ r. ⌜ r ≡ formed b stage substance amount ⌝ }
+{
+    let at = HELD * 64 + (stage * 8 + substance);
+    let mut c = b;
+    c.sums[at] = c.sums[at] + amount;
+    c.handled[substance] = c.handled[substance] + amount;
+    c.posts = c.posts + 1;
+    c
+}
+
+fn transfer(b: Book, account: usize, stage: usize, substance: usize, amount: u64) -> Book
+    requires { ⌜ Sound b ⌝ }
+    requires { ⌜ (account < 9) × (stage < 8) × (substance < 8) × (amount ≤ cell (b .sums) held stage substance) × (b .posts < 4000) ⌝ }
+    ensures { λ r. ⌜ r ≡ transferred b account stage substance amount ⌝ }
+{
+    let pair = stage * 8 + substance;
+    let mut c = b;
+    ledger::shift(&mut c.sums, HELD * 64 + pair, account * 64 + pair, amount);
+    c.posts = c.posts + 1;
+    c
+}
+
+fn close(b: Book) -> Book
+    requires { ⌜ Sound b ⌝ }
+    ensures { λ r. ⌜ r ≡ closedBook b ⌝ }
+{
+    let setup = b.setup;
+    let rates = setup.rates;
+    let mut c = b;
+    ledger::settle(&mut c.sums, rates);
+    c.posts = c.posts + 1;
+    c.closed = true;
+    c
+}
+
+// What a post does that passed its checks.
+fn apply(b: Book, p: Post, amount: u64) -> Book
+    requires { ⌜ Sound b ⌝ }
+    requires { ⌜ Applies b p amount ⌝ }
+    ensures { λ r. ⌜ r ≡ applied b p amount ⌝ }
+{
+    let material = p.material as usize;
+    let stage = p.stage as usize;
+    let substance = p.substance as usize;
+    if p.kind <= 2 {
+        return receive(b, material, p.quantity);
+    }
+    if p.kind == 3 {
+        return issue(b, material, stage, p.quantity);
+    }
+    if p.kind == 4 {
+        return form(b, stage, substance, amount);
+    }
+    if p.kind <= 12 {
+        return transfer(b, (p.kind as usize) - 4, stage, substance, amount);
+    }
+    close(b)
+}
+
+// One post of any bytes.
+pub fn take_post(b: Book, s: &[u8]) -> Answered
+    requires { ⌜ Sound b ⌝ }
+    ensures { λ r. ⌜ r ≡ outcome b (postOn b (now (s .entry))) ⌝ }
+    ensures { λ r. ⌜ Sound (r .book) ⌝ }
+{
+    let setup = b.setup;
+    let numbers = setup.numbers;
+    let o = setup.outline;
+    match read(o, &numbers, b.closed, s) {
+        ReadingAnswer::Declined(d) => answer::declined(b, d),
+        ReadingAnswer::Read(r) => {
+            let p = r.post;
+            if !has_room(b.posts, p) {
+                return answer::declined(b, decline::FULL);
+            }
+            if !is_there(&b.store, &b.sums, p, r.amount) {
+                return answer::declined(b, decline::SHORT);
+            }
+            Answered {
+                verdict: Verdict::Accepted,
+                book: apply(b, p, r.amount),
+            }
+        }
+    }
+}
