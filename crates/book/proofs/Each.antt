@@ -116,7 +116,7 @@ module _ {A : Type 0} where
     pub put-keeps : (P : A → Type 0) (d : A) → ((j : ℕ) → P (getD l j d)) → (n : ℕ) → ((i : ℕ) → i < n → P (f i)) → (j : ℕ) → P (getD (putTo place f l n) j d)
     unfolding putTo
     put-keeps P d h zero w j = h j
-    put-keeps P d h (suc n) w j = 
+    put-keeps P d h (suc n) w j =
         set-keeps P d (putTo place f l n) (place n) (f n) (put-keeps P d h n (λ i g. w i (omega arith))) (w n (omega arith)) j
 
   -- an array that is filled place by place is the list

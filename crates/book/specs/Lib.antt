@@ -7,6 +7,7 @@ pub mod Answer
 pub mod Setup
 pub mod Stage
 pub mod Post
+pub mod Entered
 pub mod Posting
 pub mod Report
 pub mod Reporting

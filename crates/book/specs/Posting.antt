@@ -1,7 +1,7 @@
 -- A post on a book (document 01, "Posts" and "Why a call is declined, in checking order", 4 to 11).
 use Prim.Native.Nat.{ℕ, _+_, _-_, _*_, _≤_, _<_}
 use mathlib.Core.Path.{_≡_}
-use mathlib.Core.Bool.{Bool, true, not, _||_, _&&_, cond}
+use mathlib.Core.Bool.{Bool, true, false, not, _||_, _&&_, cond}
 use mathlib.Core.List.{List, [], _∷_, _++_}
 use lib.Dec.{eqb, leb, ltb}
 use lib.ListN.{getD, set}
@@ -118,13 +118,15 @@ readAnswer (read.Declined d) = declined (d .number)
 -- ---- what passing the checks tells of a post that is applied
 
 pub record Applies (b : Book) (p : Post) (n : ℕ) : Type 0 where
-  pub material : p .material < 12
+  pub in-turn : mayPost (b .setup .outline) ≡ true
+  pub open : b .closed ≡ false
+  pub kind : (1 ≤ p .kind) × (p .kind ≤ 13)
+  pub material : p .kind ≤ 3 → p .material < 12
   pub stage : p .stage < 8
   pub substance : p .substance < 8
   pub grams : p .kind ≤ 3 → p .quantity ≤ 2000000000
   pub amount : n ≤ 2000000000000000
-  pub issued : p .kind ≡ 3 → p .quantity ≤ getD (b .store) (p .material) 0
-  pub leaves : 5 ≤ p .kind → p .kind ≤ 12 → n ≤ cell (b .sums) held (p .stage) (p .substance)
+  pub formed : p .kind ≡ 4 → n ≡ p .quantity
   pub room : p .kind ≤ 12 → b .posts < 4000
-  pub kinds : (1 ≤ p .kind) × (p .kind ≤ 13)
-  pub closing : b .posts ≤ 4000
+  pub in-store : p .kind ≡ 3 → p .quantity ≤ getD (b .store) (p .material) 0
+  pub in-holding : 5 ≤ p .kind → p .kind ≤ 12 → n ≤ cell (b .sums) held (p .stage) (p .substance)

@@ -68,7 +68,7 @@ fn has_room(posts: u32, p: Post) -> bool
 }
 
 fn is_there<'a>(store: &'a [u64; 12], sums: &'a [u64; 576], p: Post, amount: u64) -> bool
-    requires { ⌜ (p .material < 12) × (p .stage < 8) × (p .substance < 8) ⌝ }
+    requires { ⌜ ((p .kind ≡ 3 → p .material < 12)) × (p .stage < 8) × (p .substance < 8) ⌝ }
     ensures { λ r. ⌜ r ≡ isThere (now (store .entry)) (now (sums .entry)) p amount ⌝ }
 {
     if p.kind == 3 {
