@@ -119,7 +119,7 @@ readAnswer (read.Declined d) = declined (d .number)
 
 pub record Applies (b : Book) (p : Post) (n : ℕ) : Type 0 where
   pub in-turn : mayPost (b .setup .outline) ≡ true
-  pub open : b .closed ≡ false
+  pub is-open : b .closed ≡ false
   pub kind : (1 ≤ p .kind) × (p .kind ≤ 13)
   pub material : p .kind ≤ 3 → p .material < 12
   pub stage : p .stage < 8
