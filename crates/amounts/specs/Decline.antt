@@ -8,6 +8,14 @@ pub data Answer (A : Type 0) : Type 0 where
   taken : A → Answer A
   declined : ℕ → Answer A
 
+-- 4: a set-up block comes out of its turn, or a post or a block of posts before the last stage is described
+abbrev pub turn : ℕ
+turn = 4
+
+-- 5: the book is closed
+abbrev pub closed : ℕ
+closed = 5
+
 -- 6: a length, kind, form, index, count, limit, order or zero place breaks the layout, floats aside
 abbrev pub layout : ℕ
 layout = 6
@@ -24,6 +32,18 @@ noRow = 8
 abbrev pub excess : ℕ
 excess = 9
 
+-- 10: 4,000 posts are accepted and this isn't the close
+abbrev pub full : ℕ
+full = 10
+
+-- 11: a store or holding is less than what leaves it
+abbrev pub short : ℕ
+short = 11
+
+-- 12: a report names a substance that the book hasn't
+abbrev pub unknown : ℕ
+unknown = 12
+
 -- a test, and the number of the decline where it fails
 pub data Check : Type 0 where
   check : Bool → ℕ → Check
@@ -38,3 +58,12 @@ checked (check false n ∷ rows) a = declined n
 abbrev pub onTaken : {A B : Type 0} → Answer A → (A → Answer B) → Answer B
 onTaken (taken a) next = next a
 onTaken (declined n) next = declined n
+
+abbrev pub isTaken : {A : Type 0} → Answer A → Bool
+isTaken (taken a) = true
+isTaken (declined n) = false
+
+-- the value of an answer that is taken, and else the one given
+abbrev pub valueOr : {A : Type 0} → A → Answer A → A
+valueOr other (taken a) = a
+valueOr other (declined n) = other

@@ -37,6 +37,10 @@ fixedRanges = record { w = 0 to 10 ^ 9; u = 0 to 10 ^ 9; p = 1 to 10 ^ 9; q = 0 
 abbrev pub stationRanges : Ranges
 stationRanges = record { w = 0 to 10 ^ 9; u = 0 to 10 ^ 9; p = 0 to 10 ^ 9; q = 0 to 10 ^ 9 }
 
+-- "an unused float has zero as its whole range"
+abbrev pub unusedRanges : Ranges
+unusedRanges = record { w = 0 to 0; u = 0 to 0; p = 0 to 0; q = 0 to 0 }
+
 unfoldable pub rangesOf : ℕ → Ranges
 rangesOf n = cond (eqb n 1) floatingRanges (cond (eqb n 2) fixedRanges stationRanges)
 

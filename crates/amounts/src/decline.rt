@@ -5,6 +5,12 @@ pub struct Decline {
     pub number: u8,
 }
 
+// A set-up comes out of its turn, or a post before the last stage is described.
+pub const TURN: Decline = Decline { number: 4 };
+
+// The book is closed.
+pub const CLOSED: Decline = Decline { number: 5 };
+
 // A length, kind, form, index, count, limit, order or zero place breaks the layout, floats aside.
 pub const LAYOUT: Decline = Decline { number: 6 };
 
@@ -16,3 +22,12 @@ pub const NO_ROW: Decline = Decline { number: 8 };
 
 // The loss exceeds 2,000,000 kg.
 pub const EXCESS: Decline = Decline { number: 9 };
+
+// 4,000 posts are accepted and this isn't the close.
+pub const FULL: Decline = Decline { number: 10 };
+
+// A store or holding is less than what leaves it.
+pub const SHORT: Decline = Decline { number: 11 };
+
+// A report names a substance that the book hasn't.
+pub const UNKNOWN: Decline = Decline { number: 12 };

@@ -52,7 +52,6 @@ pub enum FormRead {
     Declined(Decline),
 }
 
-// An unused float has zero as its whole range.
 const FLOATING_ROOF: Ranges = Ranges {
     w: Range {
         low: 1.0,
@@ -110,7 +109,28 @@ const STATION: Ranges = Ranges {
     },
 };
 
-fn ranges_of(form: u8) -> Ranges
+// An unused float has zero as its whole range.
+pub const UNUSED: Ranges = Ranges {
+    w: Range {
+        low: 0.0,
+        high: 0.0,
+    },
+    u: Range {
+        low: 0.0,
+        high: 0.0,
+    },
+    p: Range {
+        low: 0.0,
+        high: 0.0,
+    },
+    q: Range {
+        low: 0.0,
+        high: 0.0,
+    },
+};
+
+// The ranges of a form's four floats.
+pub fn ranges_of(form: u8) -> Ranges
     ensures { λ r. ⌜ r ≡ rangesOf form ⌝ }
 {
     if form == 1 {
@@ -122,7 +142,8 @@ fn ranges_of(form: u8) -> Ranges
     STATION
 }
 
-fn form_at(form: u8, x: Inputs) -> LossForm
+// The form of a number from 1 to 3 with its own inputs.
+pub fn form_at(form: u8, x: Inputs) -> LossForm
     ensures { λ r. ⌜ r ≡ formAt form (x .w) (x .u) (x .p) (x .q) ⌝ }
 {
     if form == 1 {
@@ -148,7 +169,8 @@ fn form_at(form: u8, x: Inputs) -> LossForm
     }
 }
 
-fn read_inputs(ranges: Ranges, w: u64, u: u64, p: u64, q: u64) -> InputsRead
+// Four floats from their bit patterns, each in its range.
+pub fn read_inputs(ranges: Ranges, w: u64, u: u64, p: u64, q: u64) -> InputsRead
     ensures { λ r. ⌜ inputsAnswer r ≡ inputsOf ranges (valueOf w) (valueOf u) (valueOf p) (valueOf q) ⌝ }
 {
     let Reading::Value(wx) = pattern::read_float(w, ranges.w) else {
