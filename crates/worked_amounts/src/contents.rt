@@ -33,7 +33,7 @@ fn declines() {
     counted(2, 4_294_967_295);
 }
 
-pub fn show_all() {
+pub(crate) fn show_all() {
     line::text(b"contents: class ppm, counted\n");
     limits();
     ends();

@@ -100,7 +100,7 @@ fn largest_amounts() {
     figure(18_446_744_073_709_551_615);
 }
 
-pub fn show_all() {
+pub(crate) fn show_all() {
     line::text(b"figures: amount, step, figure\n");
     slips_of_the_trade();
     worked_figures();

@@ -6,39 +6,39 @@ use amounts::threshold::Due;
 use amounts::treatment::Split;
 use libc::STDOUT_FILENO;
 
-pub fn text(bytes: &[u8]) {
+pub(crate) fn text(bytes: &[u8]) {
     io::write_all(STDOUT_FILENO, bytes);
 }
 
-pub fn number(n: u64) {
+pub(crate) fn number(n: u64) {
     io::print_decimal(STDOUT_FILENO, n);
     text(b" ");
 }
 
 // The bits of a float, in 16 digits.
-pub fn pattern(bits: u64) {
+pub(crate) fn pattern(bits: u64) {
     io::print_hex(STDOUT_FILENO, bits, 16);
     text(b" ");
 }
 
-pub fn last(n: u64) {
+pub(crate) fn last(n: u64) {
     io::print_decimal(STDOUT_FILENO, n);
     text(b"\n");
 }
 
-pub fn declined(d: Decline) {
+pub(crate) fn declined(d: Decline) {
     text(b"declined ");
     last(d.number as u64);
 }
 
-pub fn loss_answer(answer: Loss) {
+pub(crate) fn loss_answer(answer: Loss) {
     match answer {
         Loss::Micrograms(n) => last(n),
         Loss::Declined(d) => declined(d),
     }
 }
 
-pub fn split_answer(answer: Split) {
+pub(crate) fn split_answer(answer: Split) {
     match answer {
         Split::Into(parts) => {
             number(parts.released);
@@ -49,7 +49,7 @@ pub fn split_answer(answer: Split) {
     }
 }
 
-pub fn due_answer(answer: Due) {
+pub(crate) fn due_answer(answer: Due) {
     match answer {
         Due::Yes => text(b"Y\n"),
         Due::No => text(b"N\n"),
@@ -57,7 +57,7 @@ pub fn due_answer(answer: Due) {
     }
 }
 
-pub fn counted_answer(answer: Counted) {
+pub(crate) fn counted_answer(answer: Counted) {
     match answer {
         Counted::Content(ppm) => last(ppm as u64),
         Counted::Declined(d) => declined(d),

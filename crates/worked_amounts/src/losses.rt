@@ -293,7 +293,7 @@ fn fractions() {
     loss(3, 7, 0x3e312defc2646e4b, ONE, ZERO, ZERO);
 }
 
-pub fn show_all() {
+pub(crate) fn show_all() {
     line::text(b"losses: form number w u p q, micrograms\n");
     worked_examples();
     each_row();

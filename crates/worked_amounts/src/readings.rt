@@ -54,7 +54,7 @@ fn declines() {
     whole(0x8000000000000001);
 }
 
-pub fn show_all() {
+pub(crate) fn show_all() {
     line::text(b"readings: pattern, whole part in a range from 0\n");
     small();
     large();

@@ -40,7 +40,7 @@ fn declines() {
     split(7, 4_294_967_295, 4_294_967_295);
 }
 
-pub fn show_all() {
+pub(crate) fn show_all() {
     line::text(b"splits: total removal destruction, released destroyed residue\n");
     slips_of_the_trade();
     floors();

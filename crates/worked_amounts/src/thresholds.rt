@@ -32,7 +32,7 @@ fn declines() {
     due(255, 0);
 }
 
-pub fn show_all() {
+pub(crate) fn show_all() {
     line::text(b"thresholds: class handled, due\n");
     limits();
     slips_of_the_trade();
