@@ -1,14 +1,10 @@
 use borrow.Author.Tests.{lt-leb, le-leb}
 use Rattle.amounts.proofs.class.is_class.Statement.{statement}
 use Rattle.amounts.proofs.class.is_class.Tie as tie
-use Rattle.amounts.proofs.class.is_class.Reads as reads
-use Rattle.amounts.proofs.class.is_class.Lts as lts
 
--- src/class.rt:9:9
 returns : tie.Need-returns
 returns c = rw (lt-leb 1 (c .before .args .class) (c .if1 .taken))
 
--- src/class.rt:5:1
 returns-2 : tie.Need-returns-2
 returns-2 c = rw (le-leb 1 (c .before .args .class) (c .if1 .left))
 

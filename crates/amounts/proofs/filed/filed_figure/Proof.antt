@@ -1,5 +1,5 @@
-use Prim.Native.Nat.{ℕ, _/_, _%_, _≤_}
 use mathlib.Core.Path.{sym, subst}
+use Prim.Native.Nat.{ℕ, _/_, _%_, _≤_}
 use native.Mathlib.Nat.{div-mul-le-self, div-lt-iff-lt-mul}
 use native.Mathlib.Omega.{arith}
 use borrow.Author.Needs.{needs}

@@ -1,7 +1,7 @@
 -- The step reached is 10 ^ 8 or a power of ten whose hundredfold is still to be compared with the amount.
-use Prim.Native.Nat.{_-_, _*_, _≤_, _<_}
 use mathlib.Core.Path.{refl}
 use mathlib.Core.Logic.{inl}
+use Prim.Native.Nat.{_-_, _*_, _≤_, _<_}
 use native.Mathlib.Nat.{le-div-iff-mul-le, div-lt-iff-lt-mul}
 use native.Mathlib.Omega.{arith}
 use Rattle.amounts.proofs.filed.Laws.{Reached, reached-some, reached-more, reached-is}

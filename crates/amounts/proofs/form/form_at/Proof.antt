@@ -1,21 +1,16 @@
-use Rattle.amounts.specs.Form.{formAt}
 use borrow.Author.Tests.{eq-eqb, ne-eqb}
+use Rattle.amounts.specs.Form.{formAt}
 use Rattle.amounts.proofs.form.form_at.Statement.{statement}
 use Rattle.amounts.proofs.form.form_at.Tie as tie
-use Rattle.amounts.proofs.form.form_at.Reads as reads
-use Rattle.amounts.proofs.form.form_at.Lts as lts
 
--- src/form.rt:129:9
 returns : tie.Need-returns
 unfolding formAt
 returns c = rw (eq-eqb _ _ (c .if1 .taken))
 
--- src/form.rt:136:9
 returns-2 : tie.Need-returns-2
 unfolding formAt
 returns-2 c = rw (ne-eqb _ _ (c .before .if1 .left), eq-eqb _ _ (c .if2 .taken))
 
--- src/form.rt:125:1
 returns-3 : tie.Need-returns-3
 unfolding formAt
 returns-3 c = rw (ne-eqb _ _ (c .before .if1 .left), ne-eqb _ _ (c .if2 .left))

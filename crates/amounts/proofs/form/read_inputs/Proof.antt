@@ -1,15 +1,12 @@
+use mathlib.Core.Bool.{true}
+use mathlib.Core.Path.{_≡_}
+use borrow.Author.Needs.{needs}
 use Rattle.amounts.proofs.pattern.Laws.{read, refused}
 use Rattle.amounts.specs.Pattern.{inRange}
 use Rattle.amounts.specs.Form.{inputsOf}
 use Rattle.amounts.specs.Binary64.{valueOf}
-use mathlib.Core.Bool.{true}
-use mathlib.Core.Path.{_≡_, sym, ap, _∙_}
-use borrow.Author.Needs.{needs}
 use Rattle.amounts.proofs.form.read_inputs.Statement.{statement}
 use Rattle.amounts.proofs.form.read_inputs.Tie as tie
-use Rattle.amounts.proofs.form.read_inputs.Reads as reads
-use Rattle.amounts.proofs.form.read_inputs.Lts as lts
-use Rattle.amounts.proofs.pattern.read_float.Reads as read-float-reads
 
 w-in : (c : tie.After-known-told) → (inRange (c .before .before .before .before .args .ranges .w) (valueOf (c .before .before .before .before .args .w)) ≡ true) × (c .before .wx .given .0 .0 ≡ valueOf (c .before .before .before .before .args .w))
 w-in c = read _ _ _ _ (c .before .before .before .read-float .ensures) (c .before .wx .given .1)
@@ -23,75 +20,58 @@ p-in c = read _ _ _ _ (c .before .before .before .read-float3 .ensures) (c .befo
 q-in : (c : tie.After-known-told4) → (inRange (c .before .before .before .before .before .before .before .before .before .before .before .before .before .before .before .before .args .ranges .q) (valueOf (c .before .before .before .before .before .before .before .before .before .before .before .before .before .before .before .before .args .q)) ≡ true) × (c .before .qx .given .0 .0 ≡ valueOf (c .before .before .before .before .before .before .before .before .before .before .before .before .before .before .before .before .args .q))
 q-in c = read _ _ _ _ (c .before .before .before .read-float4 .ensures) (c .before .qx .given .1)
 
--- src/form.rt:154:30
 read-float-requires : tie.Need-read-float-requires
 read-float-requires c κs = search needs
 
--- src/form.rt:154:24
 enum-known-wx : tie.Need-enum-known-wx
 enum-known-wx c = search needs
 
--- src/decline.rt:12:28
 enum-told : tie.Need-enum-told
 enum-told c = search needs
 
--- src/form.rt:155:9
 returns : tie.Need-returns
 unfolding inputsOf
 returns c = rw (refused _ _ _ _ (c .before .before .read-float .ensures) (c .enum-told .given .1))
 
--- src/form.rt:157:30
 read-float-requires-2 : tie.Need-read-float-requires-2
 read-float-requires-2 c κs = search needs
 
--- src/form.rt:157:24
 enum-known-ux : tie.Need-enum-known-ux
 enum-known-ux c = search needs
 
--- src/decline.rt:12:28
 enum-told-2 : tie.Need-enum-told-2
 enum-told-2 c = search needs
 
--- src/form.rt:158:9
 returns-2 : tie.Need-returns-2
 unfolding inputsOf
 returns-2 c = rw (w-in (c .before .before .before) .0, refused _ _ _ _ (c .before .before .read-float2 .ensures) (c .enum-told2 .given .1))
 
--- src/form.rt:160:30
 read-float-requires-3 : tie.Need-read-float-requires-3
 read-float-requires-3 c κs = search needs
 
--- src/form.rt:160:24
 enum-known-px : tie.Need-enum-known-px
 enum-known-px c = search needs
 
--- src/decline.rt:12:28
 enum-told-3 : tie.Need-enum-told-3
 enum-told-3 c = search needs
 
--- src/form.rt:161:9
 returns-3 : tie.Need-returns-3
 unfolding inputsOf
 returns-3 c = rw (w-in (c .before .before .before .before .before .before .before) .0, u-in (c .before .before .before) .0, refused _ _ _ _ (c .before .before .read-float3 .ensures) (c .enum-told3 .given .1))
 
--- src/form.rt:163:30
 read-float-requires-4 : tie.Need-read-float-requires-4
 read-float-requires-4 c κs = search needs
 
--- src/form.rt:163:24
 enum-known-qx : tie.Need-enum-known-qx
 enum-known-qx c = search needs
 
--- src/decline.rt:12:28
 enum-told-4 : tie.Need-enum-told-4
 enum-told-4 c = search needs
 
--- src/form.rt:164:9
 returns-4 : tie.Need-returns-4
 unfolding inputsOf
 returns-4 c = rw (w-in (c .before .before .before .before .before .before .before .before .before .before .before) .0, u-in (c .before .before .before .before .before .before .before) .0, p-in (c .before .before .before) .0, refused _ _ _ _ (c .before .before .read-float4 .ensures) (c .enum-told4 .given .1))
 
--- src/form.rt:151:1
 returns-5 : tie.Need-returns-5
 unfolding inputsOf
 returns-5 c = rw (w-in (c .before .before .before .before .before .before .before .before .before .before .before .before) .0, u-in (c .before .before .before .before .before .before .before .before) .0, p-in (c .before .before .before .before) .0, q-in c .0, w-in (c .before .before .before .before .before .before .before .before .before .before .before .before) .1, u-in (c .before .before .before .before .before .before .before .before) .1, p-in (c .before .before .before .before) .1, q-in c .1)

@@ -1,12 +1,9 @@
-use Rattle.amounts.specs.Loss.{fixedRoofKg}
-use lib.Ieee.{ofBits, round}
 use mathlib.Core.Path.{refl}
+use lib.Ieee.{ofBits, round}
+use Rattle.amounts.specs.Loss.{fixedRoofKg}
 use Rattle.amounts.proofs.loss.fixed_roof_kg.Statement.{statement}
 use Rattle.amounts.proofs.loss.fixed_roof_kg.Tie as tie
-use Rattle.amounts.proofs.loss.fixed_roof_kg.Reads as reads
-use Rattle.amounts.proofs.loss.fixed_roof_kg.Lts as lts
 
--- src/loss.rt:32:1
 returns : tie.Need-returns
 unfolding fixedRoofKg ofBits round
 returns c = refl

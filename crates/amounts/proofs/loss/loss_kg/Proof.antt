@@ -1,70 +1,49 @@
-use mathlib.Core.Path.{_∙_, sym, ap}
 use borrow.Author.Needs.{needs}
 use Rattle.amounts.proofs.loss.loss_kg.Statement.{statement}
 use Rattle.amounts.proofs.loss.loss_kg.Tie as tie
-use Rattle.amounts.proofs.loss.loss_kg.Reads as reads
-use Rattle.amounts.proofs.loss.loss_kg.Lts as lts
-use Rattle.amounts.proofs.loss.fixed_roof_kg.Reads as fixed-roof-kg-reads
-use Rattle.amounts.proofs.loss.floating_roof_kg.Reads as floating-roof-kg-reads
-use Rattle.amounts.proofs.loss.station_kg.Reads as station-kg-reads
 
--- src/loss.rt:50:13
 enum-known-form : tie.Need-enum-known-form
 enum-known-form c = search needs
 
--- src/loss.rt:54:28
 enum-known-found : tie.Need-enum-known-found
 enum-known-found c = search needs
 
--- src/decline.rt:15:29
 enum-told : tie.Need-enum-told
 enum-told c = search needs
 
--- src/loss.rt:55:17
 returns : tie.Need-returns
 returns c = rw (c .before .before .before .form .given .1, c .enum-told .given .1)
 
--- src/loss.rt:57:23
 floating-roof-kg-requires : tie.Need-floating-roof-kg-requires
 floating-roof-kg-requires c κs = search needs
 
--- src/loss.rt:60:13
 enum-known-form-2 : tie.Need-enum-known-form-2
 enum-known-form-2 c = search needs
 
--- src/loss.rt:65:28
 enum-known-found-2 : tie.Need-enum-known-found-2
 enum-known-found-2 c = search needs
 
--- src/decline.rt:15:29
 enum-told-2 : tie.Need-enum-told-2
 enum-told-2 c = search needs
 
--- src/loss.rt:66:17
 returns-2 : tie.Need-returns-2
 returns-2 c = rw (c .before .before .before .form2 .given .1, c .enum-told2 .given .1)
 
--- src/loss.rt:68:23
 fixed-roof-kg-requires : tie.Need-fixed-roof-kg-requires
 fixed-roof-kg-requires c κs = search needs
 
--- src/loss.rt:71:13
 enum-known-form-3 : tie.Need-enum-known-form-3
 enum-known-form-3 c = search needs
 
--- src/loss.rt:75:26
 station-kg-requires : tie.Need-station-kg-requires
 station-kg-requires c κs = search needs
 
--- src/loss.rt:45:1
 returns-3 : tie.Need-returns-3
 returns-3 c = rw (c .before .before .before .before .before .form .given .1, c .before .before .found .given .1, c .floating-roof-kg .ensures)
 
--- src/loss.rt:45:1
 returns-4 : tie.Need-returns-4
 returns-4 c = rw (c .before .before .before .before .before .form2 .given .1, c .before .before .found2 .given .1, c .fixed-roof-kg .ensures)
 
--- src/loss.rt:45:1
 returns-5 : tie.Need-returns-5
 returns-5 c = rw (c .before .before .form3 .given .1, c .station-kg .ensures)
 

@@ -2,29 +2,22 @@ use Rattle.amounts.proofs.pattern.Laws.{finite-below, not-finite, no-na
 use Rattle.amounts.specs.Pattern.{readingOf}
 use Rattle.amounts.proofs.pattern.read_float.Statement.{statement}
 use Rattle.amounts.proofs.pattern.read_float.Tie as tie
-use Rattle.amounts.proofs.pattern.read_float.Reads as reads
-use Rattle.amounts.proofs.pattern.read_float.Lts as lts
 
--- src/pattern.rt:25:9
 returns : tie.Need-returns
 unfolding readingOf
 returns c = simp (not-finite (c .before .args .bits) (c .before .fits .bits .fits) (c .if1 .taken))
 
--- src/pattern.rt:27:13
 float-from-bits-x : tie.Need-float-from-bits-x
 float-from-bits-x c = no-nan (c .before .args .bits) (c .if1 .left)
 
--- src/pattern.rt:30:13
 returns-2 : tie.Need-returns-2
 unfolding readingOf
 returns-2 c = simp (finite-below (c .before .before .before .before .before .args .bits) (c .before .before .before .before .if1 .left), c .before .before .if2 .taken, c .if3 .taken)
 
--- src/pattern.rt:20:1
 returns-3 : tie.Need-returns-3
 unfolding readingOf
 returns-3 c = simp (finite-below (c .before .before .before .before .before .args .bits) (c .before .before .before .before .if1 .left), c .before .before .if2 .taken, c .if3 .left)
 
--- src/pattern.rt:20:1
 returns-4 : tie.Need-returns-4
 unfolding readingOf
 returns-4 c = simp (finite-below (c .before .before .before .args .bits) (c .before .before .if1 .left), c .if2 .left)

@@ -1,14 +1,10 @@
 use borrow.Author.Tests.{eq-eqb, ne-eqb}
 use Rattle.amounts.proofs.threshold.due_from.Statement.{statement}
 use Rattle.amounts.proofs.threshold.due_from.Tie as tie
-use Rattle.amounts.proofs.threshold.due_from.Reads as reads
-use Rattle.amounts.proofs.threshold.due_from.Lts as lts
 
--- src/threshold.rt:14:1
 returns : tie.Need-returns
 returns c = rw (eq-eqb _ _ (c .if1 .taken))
 
--- src/threshold.rt:14:1
 returns-2 : tie.Need-returns-2
 returns-2 c = rw (ne-eqb _ _ (c .if1 .left))
 

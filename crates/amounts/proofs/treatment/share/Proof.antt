@@ -1,24 +1,18 @@
 use Prim.Native.Nat.{_/_, _%_}
-use Rattle.amounts.proofs.treatment.Laws.{scaled, apart}
 use native.Mathlib.Omega.{arith}
+use Rattle.amounts.proofs.treatment.Laws.{scaled, apart}
 use Rattle.amounts.proofs.treatment.share.Statement.{statement}
 use Rattle.amounts.proofs.treatment.share.Tie as tie
-use Rattle.amounts.proofs.treatment.share.Reads as reads
-use Rattle.amounts.proofs.treatment.share.Lts as lts
 
--- src/treatment.rt:25:5
 mul-result : tie.Need-mul-result
 mul-result c = omega (arith, scaled (c .args .amount / 1000000) (c .args .rate) (c .pre))
 
--- src/treatment.rt:25:35
 mul-result-2 : tie.Need-mul-result-2
 mul-result-2 c = omega (arith, scaled (c .args .amount % 1000000) (c .args .rate) (c .pre))
 
--- src/treatment.rt:25:5
 add-result : tie.Need-add-result
 add-result c = omega (arith, scaled (c .args .amount / 1000000) (c .args .rate) (c .pre), scaled (c .args .amount % 1000000) (c .args .rate) (c .pre))
 
--- src/treatment.rt:21:1
 returns : tie.Need-returns
 returns c = apart (c .args .amount) (c .args .rate)
 

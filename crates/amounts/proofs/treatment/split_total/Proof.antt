@@ -1,15 +1,10 @@
+use Prim.Native.Nat.{_≤_}
+use borrow.Author.Tests.{le-leb, lt-leb}
+use borrow.Author.Needs.{needs}
 use Rattle.amounts.proofs.treatment.Laws.{share-le}
 use Rattle.amounts.specs.Treatment.{splitOf}
-use borrow.Author.Tests.{le-leb, lt-leb}
-use Prim.Native.Nat.{_≤_}
-use mathlib.Core.Path.{_≡_, sym, ap, _∙_}
-use native.Mathlib.Omega.{arith}
-use borrow.Author.Needs.{needs}
 use Rattle.amounts.proofs.treatment.split_total.Statement.{statement}
 use Rattle.amounts.proofs.treatment.split_total.Tie as tie
-use Rattle.amounts.proofs.treatment.split_total.Reads as reads
-use Rattle.amounts.proofs.treatment.split_total.Lts as lts
-use Rattle.amounts.proofs.treatment.share.Reads as share-reads
 
 removed-fits : (c : tie.After-share) → c .share .result ≤ c .before .before .before .args .total
 removed-fits c =
@@ -21,33 +16,26 @@ destroyed-fits c =
     let e = c .before .before in
     rw (c .share2 .ensures) (share-le (c .before .share .result) (e .before .before .args .destruction) (e .if2 .left))
 
--- src/treatment.rt:33:9
 returns : tie.Need-returns
 unfolding splitOf
 returns c = rw (lt-leb (c .before .args .removal) 1000000 (c .if1 .taken))
 
--- src/treatment.rt:36:9
 returns-2 : tie.Need-returns-2
 unfolding splitOf
 returns-2 c = rw (le-leb (c .before .before .args .removal) 1000000 (c .before .if1 .left), lt-leb (c .before .before .args .destruction) 1000000 (c .if2 .taken))
 
--- src/treatment.rt:38:9
 share-requires : tie.Need-share-requires
 share-requires c κs = search needs
 
--- src/treatment.rt:39:9
 share-requires-2 : tie.Need-share-requires-2
 share-requires-2 c κs = search needs
 
--- src/treatment.rt:41:19
 sub-t9 : tie.Need-sub-t9
 sub-t9 c = removed-fits (c .before)
 
--- src/treatment.rt:43:18
 sub-t10 : tie.Need-sub-t10
 sub-t10 c = destroyed-fits c
 
--- src/treatment.rt:29:1
 returns-3 : tie.Need-returns-3
 unfolding splitOf
 returns-3 c = let e = c .before .before in let s = e .before .before in rw (le-leb (s .args .removal) 1000000 (e .before .if1 .left), le-leb (s .args .destruction) 1000000 (e .if2 .left), c .share2 .ensures, c .before .share .ensures)

@@ -1,0 +1,41 @@
+// Counted content: the class and the ppm, and what counts.
+use crate::line;
+
+fn counted(class: u8, ppm: u32) {
+    line::number(class as u64);
+    line::number(ppm as u64);
+    line::counted_answer(amounts::content::counted_content(class, ppm));
+}
+
+// Document 000, 1.1.3: from 10,000 ppm in class 1 and from 1,000 ppm in class 2.
+fn limits() {
+    counted(1, 9_999);
+    counted(1, 10_000);
+    counted(2, 999);
+    counted(2, 1_000);
+    // Each at the other's limit.
+    counted(1, 1_000);
+    counted(2, 9_999);
+}
+
+fn ends() {
+    counted(1, 0);
+    counted(2, 0);
+    counted(1, 1_000_000);
+    counted(2, 1_000_000);
+}
+
+// 6: another class, or more than 1,000,000 ppm.
+fn declines() {
+    counted(0, 10_000);
+    counted(3, 10_000);
+    counted(1, 1_000_001);
+    counted(2, 4_294_967_295);
+}
+
+pub(crate) fn show_all() {
+    line::text(b"contents: class ppm, counted\n");
+    limits();
+    ends();
+    declines();
+}
