@@ -154,7 +154,7 @@ fn counted_all(classes: &[u8; 8], contents: &[u32; 96]) -> [u32; 96]
 
 fn checked_body(count: u8, body: &[u8]) -> Verdict
     requires { ⌜ length (now body) ≡ 500 ⌝ }
-    ensures { λ r. ⌜ r ≡ verdictOf (checked (bodyChecks count (now (body .entry))) tt) ⌝ }
+    ensures { λ r. ⌜ r ≡ verdictOf (checked (bodyChecks count (now (body .entry))) (tt {0})) ⌝ }
 {
     let materials = body[0];
     if !is_within(1, 8, count) {
