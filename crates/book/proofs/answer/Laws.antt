@@ -1,5 +1,5 @@
 -- Going through a table of checks to a verdict, and back from a verdict to the table's answer. Assumes nothing.
-use mathlib.Core.Path.{_≡_, refl, sym, _∙_}
+use mathlib.Core.Path.{_≡_, refl, sym, ap, subst, _∙_}
 use mathlib.Core.Bool.{Bool, true, false, not}
 use borrow.Author.Tests.{not-true, not-false}
 use mathlib.Core.List.{List, [], _∷_}
@@ -7,7 +7,9 @@ use Prim.Native.Nat.{ℕ}
 use native.Mathlib.Omega.{arith}
 use Rattle.amounts.specs.Decline.{Check, taken, declined, check, checked}
 use Rattle.amounts.specs.declared.decline.Decline.{Decline}
-use Rattle.book.specs.Answer.{verdictOf}
+use Rattle.book.specs.Answer.{verdictOf, outcome}
+use Rattle.book.specs.declared.answer.Answered.{Answered}
+use Rattle.book.specs.declared.site.Book.{Book}
 use Rattle.book.specs.declared.answer.Verdict.{Verdict}
 use Rattle.book.specs.declared.answer.Verdict.the-variants.{Accepted, Declined}
 
@@ -56,3 +58,17 @@ pub first : {A : Type 0} (t : Bool) (n : ℕ) (rows : List Check) (a : A) → Ac
 unfolding checked
 first true n rows a e = (refl, e)
 first false n rows a e = let z : _≡_ {A = ℕ} 0 1 = cc in absurd (omega arith)
+
+-- ---- what a call returns
+
+-- a decline is the table's answer, and its book is the one given in
+pub refuses : (P : Book → Type 0) (given b : Book) (rows : List Check) (v : Verdict) (d : Decline) (r : Answered) → v ≡ verdictOf (checked rows (tt {0})) → v ≡ Declined d
+    → r ≡ outcome given (declined (d .number)) → P given → (r ≡ outcome given (checked rows b)) × P (r .book)
+refuses P given b rows v d r told is e p =
+    (e ∙ ap (outcome given) (sym (declines (tt {0}) b rows d (sym is ∙ told))), subst (λ (x : Answered). P (x .book)) (sym e) p)
+
+-- a book that is taken is the table's answer
+pub grants : (P : Book → Type 0) (given b c : Book) (rows : List Check) → Accepted ≡ verdictOf (checked rows (tt {0})) → c ≡ b → P b
+    → (record { verdict = Accepted; book = c } ≡ outcome given (checked rows b)) × P c
+grants P given b c rows told e p =
+    (ap (λ (x : Book). record { verdict = Accepted; book = x }) e ∙ ap (outcome given) (sym (accepts (tt {0}) b rows told)), subst P (sym e) p)
