@@ -63,6 +63,8 @@ pub record SoundSetup (u : Setup) : Type 0 where
   pub materials-few : u .outline .materials ≤ 12
   pub stages-few : u .outline .stages ≤ 8
   pub described-few : u .outline .described ≤ u .outline .stages
+  -- a book has stages once it has substances
+  pub stages-later : u .outline .substances ≡ 0 → u .outline .stages ≡ 0
   pub counted-small : (i : ℕ) → getD (u .counted) i 0 ≤ 1000000
   pub rated : (pair : ℕ) → Rated (getD (u .rates) pair noRates)
   pub rates-long : length (u .rates) ≡ 64

@@ -154,7 +154,7 @@ fn counted_all(classes: &[u8; 8], contents: &[u32; 96]) -> [u32; 96]
 
 fn checked_body(count: u8, body: &[u8]) -> Verdict
     requires { ⌜ length (now body) ≡ 500 ⌝ }
-    ensures { λ r. ⌜ r ≡ verdictOf (checked (bodyChecks count (now (body .entry))) tt) ⌝ }
+    ensures { λ r. ⌜ r ≡ verdictOf (checked (bodyChecks count (now (body .entry))) (tt {0})) ⌝ }
 {
     let materials = body[0];
     if !is_within(1, 8, count) {
@@ -191,7 +191,7 @@ fn checked_body(count: u8, body: &[u8]) -> Verdict
 
 // Whether a kind 1 block's body is in its turn and within its limits, by the outline and the bytes alone.
 pub fn check_setup(o: Outline, count: u8, body: &[u8]) -> Verdict
-    ensures { λ r. ⌜ r ≡ verdictOf (checked (setupChecks o count (now (body .entry))) tt) ⌝ }
+    ensures { λ r. ⌜ r ≡ verdictOf (checked (setupChecks o count (now (body .entry))) (tt {0})) ⌝ }
 {
     if !outline::may_set_up(o) {
         return Verdict::Declined(decline::TURN);

@@ -65,7 +65,7 @@ fn all_rates_fit(s: &[u8], n: usize) -> bool
 
 fn checked_body(substances: u8, body: &[u8]) -> Verdict
     requires { ⌜ (length (now body) ≡ 500) × (substances ≤ 8) ⌝ }
-    ensures { λ r. ⌜ r ≡ verdictOf (checked (stageBodyChecks substances (now (body .entry))) tt) ⌝ }
+    ensures { λ r. ⌜ r ≡ verdictOf (checked (stageBodyChecks substances (now (body .entry))) (tt {0})) ⌝ }
 {
     if !setup::is_within(1, 2, body[0]) {
         return Verdict::Declined(decline::LAYOUT);
@@ -85,7 +85,7 @@ fn checked_body(substances: u8, body: &[u8]) -> Verdict
 
 // Whether a kind 2 block's body is in its turn and within its limits, by the outline and the bytes alone.
 pub fn check_stage(o: Outline, stage: u8, body: &[u8]) -> Verdict
-    ensures { λ r. ⌜ r ≡ verdictOf (checked (stageChecks o stage (now (body .entry))) tt) ⌝ }
+    ensures { λ r. ⌜ r ≡ verdictOf (checked (stageChecks o stage (now (body .entry))) (tt {0})) ⌝ }
 {
     if !outline::may_describe(o, stage) {
         return Verdict::Declined(decline::TURN);

@@ -1,0 +1,67 @@
+use mathlib.Core.Path.{_≡_, sym, ap, _∙_}
+use denote.Ref.{now}
+use native.Mathlib.Omega.{arith}
+use Rattle.book.specs.Setup.{setupChecks, setupOf, setUpOn, withSetup}
+use Rattle.book.specs.Site.{Sound}
+use Rattle.book.specs.declared.site.Setup.{Setup}
+use Rattle.book.proofs.answer.Laws.{refuses, grants}
+use Rattle.book.proofs.setup.Taken.{Accepts, accepted, sound-set-up}
+use borrow.Author.Needs.{needs}
+use Rattle.book.proofs.setup.set_up.Statement.{statement}
+use Rattle.book.proofs.setup.set_up.Tie as tie
+
+taken : (c : tie.After-enum-told) → let a = c .before .before .before .before .before .before .args in Accepts (a .b .setup .outline) (a .count) (now (a .body))
+taken c =
+    let a = c .before .before .before .before .before .before .args in
+    accepted (a .b .setup .outline) (a .count) (now (a .body)) (sym (c .enum-told .given .1) ∙ c .before .before .check-setup .ensures)
+
+check-setup-requires : tie.Need-check-setup-requires
+check-setup-requires c κs = search needs
+
+enum-known-d : tie.Need-enum-known-d
+enum-known-d c = search needs
+
+declined-requires : tie.Need-declined-requires
+declined-requires c κs = search needs
+
+enum-told : tie.Need-enum-told
+enum-told c = search needs
+
+parse-requires : tie.Need-parse-requires
+parse-requires c κs = taken c .long
+
+add-c : tie.Need-add-c
+add-c c = search needs
+
+returns : tie.Need-returns
+unfolding setUpOn
+returns c =
+    let a = c .before .before .before .before .before .before .before .before .args in
+    refuses Sound (a .b) (withSetup (a .b) (setupOf (a .count) (now (a .body)))) (setupChecks (a .b .setup .outline) (a .count) (now (a .body)))
+    (c .before .before .before .before .check-setup .result) (c .before .before .d .given .0 .0) (c .declined .result) (c .before .before .before .before .check-setup .ensures) (c .before .before .d .given .1) (c .declined .ensures) (c .before .before .before .before .before .before .before .before .pre)
+
+returns-2 : tie.Need-returns-2
+unfolding setUpOn
+returns-2 c =
+    let k = c .before .before in
+    let s = k .before .before .before .before .before .before in
+    let a = s .args in
+    let u = setupOf (a .count) (now (a .body)) in
+    let undescribed : a .b .setup .outline .described ≡ 0 = omega (arith, s .pre .setup .stages-later (taken k .none), s .pre .setup .described-few) in
+    grants Sound (a .b) (withSetup (a .b) u) (withSetup (a .b) (c .before .parse .result)) (setupChecks (a .b .setup .outline) (a .count) (now (a .body)))
+    (sym (k .enum-told .given .1) ∙ k .before .before .check-setup .ensures)
+    (ap (λ (x : Setup). withSetup (a .b) x) (c .before .parse .ensures))
+    (sound-set-up (a .b) (a .count) (now (a .body)) (s .pre) undescribed (taken k))
+
+pub set-up-spec : {M : Type 1} → statement M
+set-up-spec =
+    tie.close
+    (tie.spec
+    check-setup-requires
+    enum-known-d
+    declined-requires
+    enum-told
+    parse-requires
+    add-c
+    returns
+    returns-2)
