@@ -3,17 +3,10 @@ use mathlib.Core.Path.{_≡_, refl, sym, ap, _∙_}
 use mathlib.Core.Bool.{Bool, true, false, true≢false, _&&_}
 use mathlib.Core.List.{List, [], _∷_, _++_}
 use Prim.Native.Nat.{ℕ, zero, suc, _+_, _≤_, _<_}
-<<<<<<< HEAD
-use native.Mathlib.Decide.{ℕ-discrete}
-use native.Mathlib.Numerals.{add-one}
-use native.Mathlib.Omega.{arith}
-use lib.ListN.{length, getD, set, replicate, length-append, length-set, length-replicate, List·getD-append}
-=======
 use native.Mathlib.Decide.{ℕ-discrete, decLt}
 use native.Mathlib.Numerals.{add-one}
 use native.Mathlib.Omega.{arith}
 use lib.ListN.{length, getD, set, replicate, length-append, length-set, length-replicate, List·getD-append, List·getD-eq-default}
->>>>>>> setup
 use lib.Seq.{ext-getD, getD-at, getD-set-same, getD-set-other}
 use Rattle.book.specs.Each.{sumTo, allTo, listTo, putTo}
 
@@ -75,8 +68,6 @@ module _ {A : Type 0} where
       go (yes e) before = rw e (getD-at (listTo n f) (f n) [] d n (length-list n f))
       go (no u) before = List·getD-append (listTo n f) (f n ∷ []) d i (omega (arith, length-list n f)) ∙ before (omega arith)
 
-<<<<<<< HEAD
-=======
   -- what holds of each value, and past the end of the default, holds of each element
   pub list-keeps : (P : A → Type 0) (n : ℕ) (f : ℕ → A) (d : A) → P d → ((i : ℕ) → i < n → P (f i)) → (i : ℕ) → P (getD (listTo n f) i d)
   list-keeps P n f d z h i = go (decLt i n)
@@ -87,7 +78,6 @@ module _ {A : Type 0} where
           let past : length (listTo n f) ≤ i = omega (arith, length-list n f) in
           rw (List·getD-eq-default (listTo n f) d past) z
 
->>>>>>> setup
   -- ---- writing at places
 
   -- what holds of each element before, and of what is written, holds of each after
