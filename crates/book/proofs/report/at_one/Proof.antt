@@ -1,0 +1,16 @@
+use borrow.Author.Tests.{eq-eqb, ne-eqb}
+use Rattle.book.proofs.report.at_one.Statement.{statement}
+use Rattle.book.proofs.report.at_one.Tie as tie
+use Rattle.book.proofs.report.at_one.Reads as reads
+use Rattle.book.proofs.report.at_one.Lts as lts
+
+-- src/report.rt:118:1
+returns : tie.Need-returns
+returns c = rw (eq-eqb _ _ (c .if1 .taken))
+
+-- src/report.rt:118:1
+returns-2 : tie.Need-returns-2
+returns-2 c = rw (ne-eqb _ _ (c .if1 .left))
+
+pub at-one-spec : {M : Type 1} → statement M
+at-one-spec = tie.close (tie.spec returns returns-2)

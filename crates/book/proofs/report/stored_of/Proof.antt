@@ -1,0 +1,97 @@
+-- The sum so far is that of the materials passed.
+use mathlib.Core.Path.{_≡_, sym, ap, _∙_}
+use Prim.Native.Nat.{ℕ, _+_, _-_, _*_, _≤_, _<_}
+use native.Mathlib.Omega.{arith}
+use lib.ListN.{getD}
+use borrow.Author.Needs.{needs}
+use denote.Ref.{now}
+use Rattle.book.specs.Each.{sumTo}
+use Rattle.book.specs.Ledger.{brings}
+use Rattle.book.specs.Site.{storedTo}
+use Rattle.book.proofs.Each.{sum-again}
+use Rattle.book.proofs.Sums.{term-le, sum-mono}
+use Rattle.book.proofs.report.stored_of.Statement.{statement}
+use Rattle.book.proofs.report.stored_of.Tie as tie
+
+abbrev Inv-loop : tie.InvT-loop
+Inv-loop store counted s sum₀ m₀ sum m = (m ≤ 12) × (sum ≡ storedTo store counted s m)
+
+abbrev μ-loop : tie.MeasureT-loop
+μ-loop store counted s sum₀ m₀ sum m = 12 - m
+
+-- what each material stores of the substance
+abbrev each : tie.Start → ℕ → ℕ
+each c m = brings (now (c .args .counted)) m (getD (now (c .args .store)) m 0) (c .args .s)
+
+loop-holds : tie.Need-loop-holds Inv-loop μ-loop
+unfolding sumTo
+loop-holds c = omega arith
+
+mul-sum : tie.Need-mul-sum Inv-loop μ-loop
+mul-sum c = search needs
+
+element-copy-out-sum : tie.Need-element-copy-out-sum Inv-loop μ-loop
+element-copy-out-sum c = search needs
+
+mul-sum-2 : tie.Need-mul-sum-2 Inv-loop μ-loop
+mul-sum-2 c = omega arith
+
+add-sum : tie.Need-add-sum Inv-loop μ-loop
+add-sum c = omega arith
+
+mul-sum-3 : tie.Need-mul-sum-3 Inv-loop μ-loop
+mul-sum-3 c = omega arith
+
+element-copy-out-sum-2 : tie.Need-element-copy-out-sum-2 Inv-loop μ-loop
+element-copy-out-sum-2 c = omega arith
+
+cast-sum : tie.Need-cast-sum Inv-loop μ-loop
+cast-sum c = ?
+
+mul-sum-4 : tie.Need-mul-sum-4 Inv-loop μ-loop
+mul-sum-4 c =
+    let l = c .before .before .before in
+    omega (arith, term-le 12 (l .loop .m) (each (l .before)) (omega arith), l .before .pre .1)
+
+add-sum-2 : tie.Need-add-sum-2 Inv-loop μ-loop
+add-sum-2 c =
+    let l = c .before .before .before in
+    omega (arith, sum-again (l .loop .m) (each (l .before)), sum-mono (l .loop .m + 1) 12 (each (l .before)) (omega arith), l .before .pre .1)
+
+add-m : tie.Need-add-m Inv-loop μ-loop
+add-m c = omega arith
+
+loop-less : tie.Need-loop-less Inv-loop μ-loop
+loop-less c = omega arith
+
+loop-again : tie.Need-loop-again Inv-loop μ-loop
+loop-again c =
+    let l = c .before .before .before in
+    (omega arith, ap (λ (x : ℕ). x + each (l .before) (l .loop .m)) (l .loop .inv .1) ∙ sym (sum-again (l .loop .m) (each (l .before))))
+
+returns : tie.Need-returns Inv-loop μ-loop
+returns c =
+    let l = c .before in
+    let e : l .loop .m ≡ 12 = omega arith in
+    l .loop .inv .1 ∙ ap (λ (k : ℕ). sumTo k (each (l .before))) e
+
+pub stored-of-spec : {M : Type 1} → statement M
+stored-of-spec =
+    tie.close
+    (tie.spec
+    Inv-loop
+    μ-loop
+    loop-holds
+    mul-sum
+    element-copy-out-sum
+    mul-sum-2
+    add-sum
+    mul-sum-3
+    element-copy-out-sum-2
+    cast-sum
+    mul-sum-4
+    add-sum-2
+    add-m
+    loop-less
+    loop-again
+    returns)
