@@ -18,10 +18,10 @@ use Rattle.book.proofs.Sums.{sum-same, sum-point, term-le}
 -- ---- one write
 
 -- what the accounts of a stage hold of a substance
-abbrev column : List ℕ → ℕ → ℕ → ℕ
+abbrev pub column : List ℕ → ℕ → ℕ → ℕ
 column sums s stage = sumTo 9 (λ account. cell sums account stage s)
 
-total-is : (sums : List ℕ) (s : ℕ) → total sums s ≡ sumTo 8 (column sums s)
+pub total-is : (sums : List ℕ) (s : ℕ) → total sums s ≡ sumTo 8 (column sums s)
 unfolding total
 total-is sums s = refl
 

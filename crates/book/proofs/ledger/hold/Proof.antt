@@ -1,6 +1,6 @@
 -- The holdings of the substances passed have grown by what the grams bring.
-use Prim.Native.Nat.{_-_, _≤_}
 use mathlib.Core.Path.{_≡_, ap, _∙_}
+use Prim.Native.Nat.{_-_, _≤_}
 use borrow.Author.Needs.{needs}
 use native.Mathlib.Omega.{arith}
 use Rattle.book.specs.Each.{putTo}
