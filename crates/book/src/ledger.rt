@@ -1,6 +1,6 @@
 // The ledger's sums, lent to the functions that move amounts in them.
 ghost use mathlib.Core.Path.{_≡_};
-ghost use Prim.Native.Nat.{ℕ, _^_, _+_, _-_, _≤_, _<_};
+ghost use Prim.Native.Nat.{ℕ, _^_, _+_, _-_, _*_, _≤_, _<_};
 ghost use lib.ListN.{length, getD, set};
 ghost use Rattle.book.specs.Ledger.{held, cellOf, total, moved, raised, brings, closesTo, settled};
 use crate::site::Rates;
@@ -33,6 +33,14 @@ pub(crate) fn shift(sums: &mut [u64; 576], from: usize, to: usize, amount: u64)
     sums[to] = sums[to] + amount;
 }
 
+// What grams bring of a substance, by its counted content.
+pub(crate) fn bring(grams: u64, counted: u32) -> u64
+    requires { ⌜ grams * counted < 2 ^ 64 ⌝ }
+    ensures { λ r. ⌜ r ≡ grams * counted ⌝ }
+{
+    grams * (counted as u64)
+}
+
 // What grams of a material bring of each substance goes to a stage's holdings.
 pub(crate) fn hold(
     sums: &mut [u64; 576],
@@ -48,7 +56,8 @@ pub(crate) fn hold(
     let mut s: usize = 0;
     while s < 8 {
         let at = HELD * 64 + (stage * 8 + s);
-        sums[at] = sums[at] + grams * (counted[material * 8 + s] as u64);
+        let amount = bring(grams, counted[material * 8 + s]);
+        sums[at] = sums[at] + amount;
         s += 1;
     }
 }
@@ -61,7 +70,8 @@ pub(crate) fn handle(handled: &mut [u64; 8], counted: &[u32; 96], material: usiz
 {
     let mut s: usize = 0;
     while s < 8 {
-        handled[s] = handled[s] + grams * (counted[material * 8 + s] as u64);
+        let amount = bring(grams, counted[material * 8 + s]);
+        handled[s] = handled[s] + amount;
         s += 1;
     }
 }
