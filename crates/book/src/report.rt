@@ -10,6 +10,7 @@ ghost use Rattle.book.specs.Ledger.{total, noRates};
 ghost use Rattle.book.specs.Report.{atOne, atTwo, lineTo, sixOf, weigh, filingOf, reportOf, answer};
 ghost use Rattle.book.specs.Reporting.{cellsOf, weighCells, lineOf, addHeadings, addLines};
 ghost use Rattle.book.specs.Site.{Rated, storedTo, Sound};
+use crate::ledger;
 use crate::ledger::CONSUMED;
 use crate::ledger::GAS;
 use crate::ledger::HELD;
@@ -222,7 +223,7 @@ fn stored_of<'a>(store: &'a [u64; 12], counted: &'a [u32; 96], s: usize) -> u64
     let mut sum: u64 = 0;
     let mut m: usize = 0;
     while m < 12 {
-        sum += store[m] * (counted[m * 8 + s] as u64);
+        sum += ledger::bring(store[m], counted[m * 8 + s]);
         m += 1;
     }
     sum

@@ -2,23 +2,28 @@
 use mathlib.Core.Path.{_≡_, refl, sym, ap, ap₂, _∙_, subst}
 use mathlib.Core.Bool.{Bool, true, false, cond}
 use mathlib.Core.List.{List}
-use Prim.Native.Nat.{ℕ, zero, suc, _+_, _*_, _≤_, _<_}
+use Prim.Native.Nat.{ℕ, zero, suc, _+_, _*_, _^_, _≤_, _<_}
 use native.Mathlib.Numerals.{add-one}
 use native.Mathlib.Omega.{arith}
+use borrow.Author.Tests.{lt-ltb, le-ltb}
 use lib.Dec.{eqb}
 use lib.ListN.{getD}
 use Rattle.amounts.specs.Treatment.{partsOf}
 use Rattle.amounts.specs.declared.treatment.Parts.{Parts}
 use Rattle.amounts.proofs.treatment.Laws.{conserved}
-use Rattle.amounts.specs.Filed.{filedOf}
+use Rattle.amounts.specs.Decline.{taken, declined}
+use Rattle.amounts.specs.Filed.{stepOf, filedOf}
+use Rattle.amounts.proofs.filed.Laws.{filed-within}
 use Rattle.book.specs.Each.{sumTo}
 use Rattle.book.specs.Ledger.{cell, noRates, total}
-use Rattle.book.specs.Report.{atOne, atTwo, ratesOf, gasParts, waterParts, residues, stageLine, lineTo, sixOf, weigh, mapHeadings}
+use Rattle.book.specs.Report.{atOne, atTwo, ratesOf, gasParts, waterParts, residues, stageLine, lineTo, sixOf, weigh, mapHeadings, filingOf, dueIn, reportAt, reportOf}
 use Rattle.book.specs.Reporting.{cellsOf, weighCells, lineFrom, lineOf, addLines}
-use Rattle.book.specs.Site.{Rated}
+use Rattle.book.specs.Site.{stored, content, Rated, Sound}
 use Rattle.book.specs.declared.report.Cells.{Cells}
 use Rattle.book.specs.declared.report.Headings.{Headings}
 use Rattle.book.specs.declared.report.Line.{Line}
+use Rattle.book.specs.declared.report.Filing.{Filing}
+use Rattle.book.specs.declared.site.Book.{Book}
 use Rattle.book.specs.declared.site.Rates.{Rates}
 use Rattle.book.specs.declared.site.Setup.{Setup}
 use Rattle.book.proofs.Each.{sum-again}
@@ -108,3 +113,55 @@ line-is c r waterTo residueTo g w clean waste sewer off eg ew e1 e2 e3 e4 =
 pub figures-are : (h : Headings) (a b c d e f : ℕ) → a ≡ filedOf (h .air) → b ≡ filedOf (h .water) → c ≡ filedOf (h .soil) → d ≡ filedOf (h .land) → e ≡ filedOf (h .sewer) → f ≡ filedOf (h .offsite)
     → _≡_ {A = Headings} (record { air = a; water = b; soil = c; land = d; sewer = e; offsite = f }) (mapHeadings filedOf h)
 figures-are h a b c d e f p q r s t u = rw (p, q, r, s, t, u)
+
+-- what a sound book holds of a substance fits 64 bits
+module _ (b : Book) (h : Sound b) (s : ℕ) (hs : s < 8) where
+  pub total-fits : total (b .sums) s < 2 ^ 64
+  total-fits = omega (arith, h .bounded s hs, h .posts-few)
+
+  pub stored-fits : stored b s < 2 ^ 64
+  stored-fits = omega (arith, h .bounded s hs, h .posts-few)
+
+-- a report put together from its parts
+pub report-is : (b : Book) (s : ℕ) → s < b .setup .outline .substances → (due : Bool) (store : ℕ) (line : Line) (filed : Filing)
+    → due ≡ dueIn b s → store ≡ stored b s → line ≡ lineTo (b .sums) (b .setup) s 8 → filed ≡ filingOf due (line .headings)
+    → taken (record { posts = b .posts; number = getD (b .setup .numbers) s 0; handled = getD (b .handled) s 0; due = due; store = store; line = line; filed = filed }) ≡ reportOf b s
+unfolding reportOf
+report-is b s h due store line filed d t l f = rw (lt-ltb s (b .setup .outline .substances) h, f, d, t, l)
+
+pub report-unknown : (b : Book) (s : ℕ) → b .setup .outline .substances ≤ s → declined 12 ≡ reportOf b s
+unfolding reportOf
+report-unknown b s h = rw (le-ltb s (b .setup .outline .substances) h)
+
+-- ---- what a report says, over a sound book
+
+-- what a report shows without the store is what was handled, and with it what entered
+module _ (b : Book) (h : Sound b) (s : ℕ) (hs : s < 8) where
+  pub report-handled : weigh (reportAt b s .line) ≡ reportAt b s .handled
+  report-handled = line-total (b .sums) (b .setup) s (h .setup .rated) ∙ sym (h .weighed s hs)
+
+  pub report-entered : reportAt b s .store + weigh (reportAt b s .line) ≡ content b s
+  report-entered = let e = line-total (b .sums) (b .setup) s (h .setup .rated) in both (reportAt b s .store) (weigh (reportAt b s .line)) (total (b .sums) s) e
+    where
+      both : (x y t : ℕ) → y ≡ t → x + y ≡ t + x
+      both x y t e = omega arith
+
+  -- so each heading is an amount of 64 bits
+  pub headings-fit : sixOf (reportAt b s .line .headings) < 2 ^ 64
+  headings-fit = part (reportAt b s .line) (total (b .sums) s) (line-total (b .sums) (b .setup) s (h .setup .rated)) (total-fits b h s hs)
+    where
+      part : (x : Line) (t : ℕ) → weigh x ≡ t → t < 2 ^ 64 → sixOf (x .headings) < 2 ^ 64
+      part x t e k = omega arith
+
+-- the six steps added
+abbrev pub sixSteps : Headings → ℕ
+sixSteps x = sixOf (mapHeadings stepOf x)
+
+-- six filed figures and their six amounts differ, either way, by at most half of the six steps added
+pub figures-within : (x : Headings) → sixOf x < 2 ^ 64
+    → (2 * sixOf (mapHeadings filedOf x) ≤ 2 * sixOf x + sixSteps x) × (2 * sixOf x ≤ 2 * sixOf (mapHeadings filedOf x) + sixSteps x)
+figures-within x h =
+    omega (arith, within (x .air) (omega arith), within (x .water) (omega arith), within (x .soil) (omega arith), within (x .land) (omega arith), within (x .sewer) (omega arith), within (x .offsite) (omega arith))
+  where
+    within : (a : ℕ) → a < 2 ^ 64 → (2 * filedOf a ≤ 2 * a + stepOf a) × (2 * a ≤ 2 * filedOf a + stepOf a)
+    within a k = omega (arith, filed-within a k)

@@ -1,14 +1,10 @@
 use borrow.Author.Tests.{eq-eqb, ne-eqb}
 use Rattle.book.proofs.report.at_one.Statement.{statement}
 use Rattle.book.proofs.report.at_one.Tie as tie
-use Rattle.book.proofs.report.at_one.Reads as reads
-use Rattle.book.proofs.report.at_one.Lts as lts
 
--- src/report.rt:118:1
 returns : tie.Need-returns
 returns c = rw (eq-eqb _ _ (c .if1 .taken))
 
--- src/report.rt:118:1
 returns-2 : tie.Need-returns-2
 returns-2 c = rw (ne-eqb _ _ (c .if1 .left))
 

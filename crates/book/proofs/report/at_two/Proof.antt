@@ -1,14 +1,10 @@
 use borrow.Author.Tests.{eq-eqb, ne-eqb}
 use Rattle.book.proofs.report.at_two.Statement.{statement}
 use Rattle.book.proofs.report.at_two.Tie as tie
-use Rattle.book.proofs.report.at_two.Reads as reads
-use Rattle.book.proofs.report.at_two.Lts as lts
 
--- src/report.rt:124:1
 returns : tie.Need-returns
 returns c = rw (eq-eqb _ _ (c .if1 .taken))
 
--- src/report.rt:124:1
 returns-2 : tie.Need-returns-2
 returns-2 c = rw (ne-eqb _ _ (c .if1 .left))
 

@@ -1,39 +1,29 @@
-use Rattle.amounts.specs.Threshold as thresholds
-use Rattle.amounts.specs.Decline.{Answer, valueOr}
-use mathlib.Core.Bool.{Bool, false}
+use mathlib.Core.Bool.{false}
 use mathlib.Core.Path.{sym, ap, _∙_}
 use borrow.Author.Needs.{needs}
+use Rattle.amounts.specs.Threshold as thresholds
+use Rattle.amounts.specs.Decline.{valueOr}
 use Rattle.book.proofs.report.due_or_not.Statement.{statement}
 use Rattle.book.proofs.report.due_or_not.Tie as tie
-use Rattle.book.proofs.report.due_or_not.Reads as reads
-use Rattle.book.proofs.report.due_or_not.Lts as lts
-use Rattle.amounts.proofs.threshold.is_due.Reads as is-due-reads
 
--- src/report.rt:234:11
 is-due-requires : tie.Need-is-due-requires
 is-due-requires c κs = search needs
 
--- src/report.rt:235:21
 enum-told : tie.Need-enum-told
 enum-told c = search needs
 
--- src/report.rt:236:20
 enum-told-2 : tie.Need-enum-told-2
 enum-told-2 c = search needs
 
--- src/report.rt:237:29
 enum-told-3 : tie.Need-enum-told-3
 enum-told-3 c = search needs
 
--- src/report.rt:231:1
 returns : tie.Need-returns
 returns c = ap (valueOr false) (sym (ap thresholds.answer (c .enum-told .given .1)) ∙ c .before .before .is-due .ensures)
 
--- src/report.rt:231:1
 returns-2 : tie.Need-returns-2
 returns-2 c = ap (valueOr false) (sym (ap thresholds.answer (c .enum-told2 .given .1)) ∙ c .before .before .is-due .ensures)
 
--- src/report.rt:231:1
 returns-3 : tie.Need-returns-3
 returns-3 c = ap (valueOr false) (sym (ap thresholds.answer (c .enum-told3 .given .1)) ∙ c .before .before .is-due .ensures)
 

@@ -1,9 +1,8 @@
 -- The sum so far is that of the materials passed.
-use mathlib.Core.Path.{_≡_, sym, ap, _∙_}
-use Prim.Native.Nat.{ℕ, _+_, _-_, _*_, _≤_, _<_}
+use mathlib.Core.Path.{_≡_, sym, ap, ap₂, _∙_}
+use Prim.Native.Nat.{ℕ, _+_, _-_, _≤_}
 use native.Mathlib.Omega.{arith}
 use lib.ListN.{getD}
-use borrow.Author.Needs.{needs}
 use denote.Ref.{now}
 use Rattle.book.specs.Each.{sumTo}
 use Rattle.book.specs.Ledger.{brings}
@@ -20,43 +19,40 @@ abbrev μ-loop : tie.MeasureT-loop
 μ-loop store counted s sum₀ m₀ sum m = 12 - m
 
 -- what each material stores of the substance
-abbrev each : tie.Start → ℕ → ℕ
+abbrev each : tie.Start Inv-loop μ-loop → ℕ → ℕ
 each c m = brings (now (c .args .counted)) m (getD (now (c .args .store)) m 0) (c .args .s)
 
 loop-holds : tie.Need-loop-holds Inv-loop μ-loop
 unfolding sumTo
 loop-holds c = omega arith
 
-mul-sum : tie.Need-mul-sum Inv-loop μ-loop
-mul-sum c = search needs
+mul-bring : tie.Need-mul-bring Inv-loop μ-loop
+mul-bring c = omega arith
 
-element-copy-out-sum : tie.Need-element-copy-out-sum Inv-loop μ-loop
-element-copy-out-sum c = search needs
+element-copy-out-bring : tie.Need-element-copy-out-bring Inv-loop μ-loop
+element-copy-out-bring c = omega arith
 
-mul-sum-2 : tie.Need-mul-sum-2 Inv-loop μ-loop
-mul-sum-2 c = omega arith
+mul-bring-2 : tie.Need-mul-bring-2 Inv-loop μ-loop
+mul-bring-2 c = omega arith
 
-add-sum : tie.Need-add-sum Inv-loop μ-loop
-add-sum c = omega arith
+add-bring : tie.Need-add-bring Inv-loop μ-loop
+add-bring c = omega arith
 
-mul-sum-3 : tie.Need-mul-sum-3 Inv-loop μ-loop
-mul-sum-3 c = omega arith
+mul-bring-3 : tie.Need-mul-bring-3 Inv-loop μ-loop
+mul-bring-3 c = omega arith
 
-element-copy-out-sum-2 : tie.Need-element-copy-out-sum-2 Inv-loop μ-loop
-element-copy-out-sum-2 c = omega arith
+element-copy-out-bring-2 : tie.Need-element-copy-out-bring-2 Inv-loop μ-loop
+element-copy-out-bring-2 c = omega arith
 
-cast-sum : tie.Need-cast-sum Inv-loop μ-loop
-cast-sum c = ?
-
-mul-sum-4 : tie.Need-mul-sum-4 Inv-loop μ-loop
-mul-sum-4 c =
+bring-requires : tie.Need-bring-requires Inv-loop μ-loop
+bring-requires c κs =
     let l = c .before .before .before in
     omega (arith, term-le 12 (l .loop .m) (each (l .before)) (omega arith), l .before .pre .1)
 
-add-sum-2 : tie.Need-add-sum-2 Inv-loop μ-loop
-add-sum-2 c =
-    let l = c .before .before .before in
-    omega (arith, sum-again (l .loop .m) (each (l .before)), sum-mono (l .loop .m + 1) 12 (each (l .before)) (omega arith), l .before .pre .1)
+add-sum : tie.Need-add-sum Inv-loop μ-loop
+add-sum c =
+    let l = c .before .before .before .before in
+    omega (arith, c .bring .ensures, sum-again (l .loop .m) (each (l .before)), sum-mono (l .loop .m + 1) 12 (each (l .before)) (omega arith), l .before .pre .1)
 
 add-m : tie.Need-add-m Inv-loop μ-loop
 add-m c = omega arith
@@ -66,8 +62,8 @@ loop-less c = omega arith
 
 loop-again : tie.Need-loop-again Inv-loop μ-loop
 loop-again c =
-    let l = c .before .before .before in
-    (omega arith, ap (λ (x : ℕ). x + each (l .before) (l .loop .m)) (l .loop .inv .1) ∙ sym (sum-again (l .loop .m) (each (l .before))))
+    let l = c .before .before .before .before in
+    (omega arith, ap₂ (λ (x y : ℕ). x + y) (l .loop .inv .1) (c .bring .ensures) ∙ sym (sum-again (l .loop .m) (each (l .before))))
 
 returns : tie.Need-returns Inv-loop μ-loop
 returns c =
@@ -82,15 +78,14 @@ stored-of-spec =
     Inv-loop
     μ-loop
     loop-holds
-    mul-sum
-    element-copy-out-sum
-    mul-sum-2
+    mul-bring
+    element-copy-out-bring
+    mul-bring-2
+    add-bring
+    mul-bring-3
+    element-copy-out-bring-2
+    bring-requires
     add-sum
-    mul-sum-3
-    element-copy-out-sum-2
-    cast-sum
-    mul-sum-4
-    add-sum-2
     add-m
     loop-less
     loop-again
