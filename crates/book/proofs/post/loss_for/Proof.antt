@@ -25,7 +25,11 @@ loss-of-requires : tie.Need-loss-of-requires
 loss-of-requires c κs = search needs
 
 returns-2 : tie.Need-returns-2
-returns-2 c = rw (eq-eqb (c .before .before .before .before .before .before .before .args .p .kind) 12 (c .before .before .before .before .before .if1 .left), ← c .before .before .form-at .ensures, ← c .before .row-of .ensures) (c .loss-of .ensures)
+returns-2 c =
+    let k = c .before in
+    let k₁ = k .before .before .before .before in
+    let n = k₁ .before .before .args .p .kind in
+    rw (eq-eqb n 12 (k₁ .if1 .left), ← k .before .form-at .ensures, ← k .row-of .ensures) (c .loss-of .ensures)
 
 pub loss-for-spec : {M : Type 1} → statement M
 loss-for-spec =

@@ -13,11 +13,17 @@ decode-requires c κs = search needs
 
 returns-2 : tie.Need-returns-2
 unfolding checked
-returns-2 c = let k = c .before .before in rw (eq-eqb _ _ (k .before .if1 .left), ← k .decode .ensures, lt-leb 1 (k .decode .result .kind) (c .if2 .taken))
+returns-2 c =
+    let k = c .before .before in
+    rw (eq-eqb _ _ (k .before .if1 .left), ← k .decode .ensures, lt-leb 1 (k .decode .result .kind) (c .if2 .taken))
 
 returns-3 : tie.Need-returns-3
 unfolding checked
-returns-3 c = let k = c .before .before .before .before in let n = k .decode .result .kind in rw (eq-eqb _ _ (k .before .if1 .left), ← k .decode .ensures, le-leb 1 n (c .before .before .if2 .left), lt-leb n 13 (c .if3 .taken))
+returns-3 c =
+    let k₂ = c .before .before in
+    let k₁ = k₂ .before .before in
+    let n = k₁ .decode .result .kind in
+    rw (eq-eqb _ _ (k₁ .before .if1 .left), ← k₁ .decode .ensures, le-leb 1 n (k₂ .if2 .left), lt-leb n 13 (c .if3 .taken))
 
 limits-of-requires : tie.Need-limits-of-requires
 limits-of-requires c κs = search needs
@@ -27,11 +33,23 @@ fields-fit-requires c κs = search needs
 
 returns-4 : tie.Need-returns-4
 unfolding checked
-returns-4 c = let k = c .before .before .before .before .before .before .before in let n = k .decode .result .kind in rw (eq-eqb _ _ (k .before .if1 .left), ← k .decode .ensures, le-leb 1 n (c .before .before .before .before .before .if2 .left), le-leb n 13 (c .before .before .before .if3 .left), ← c .before .before .limits-of .ensures, ← c .before .fields-fit .ensures, not-true (c .before .fields-fit .result) (c .if4 .taken))
+returns-4 c =
+    let k = c .before in
+    let k₃ = k .before .before in
+    let k₂ = k₃ .before .before in
+    let k₁ = k₂ .before .before in
+    let n = k₁ .decode .result .kind in
+    rw (eq-eqb _ _ (k₁ .before .if1 .left), ← k₁ .decode .ensures, le-leb 1 n (k₂ .if2 .left), le-leb n 13 (k₃ .if3 .left), ← k .before .limits-of .ensures, ← k .fields-fit .ensures, not-true (k .fields-fit .result) (c .if4 .taken))
 
 returns-5 : tie.Need-returns-5
 unfolding checked
-returns-5 c = let k = c .before .before .before .before .before .before .before in let n = k .decode .result .kind in rw (eq-eqb _ _ (k .before .if1 .left), ← k .decode .ensures, le-leb 1 n (c .before .before .before .before .before .if2 .left), le-leb n 13 (c .before .before .before .if3 .left), ← c .before .before .limits-of .ensures, ← c .before .fields-fit .ensures, not-false (c .before .fields-fit .result) (c .if4 .left))
+returns-5 c =
+    let k = c .before in
+    let k₃ = k .before .before in
+    let k₂ = k₃ .before .before in
+    let k₁ = k₂ .before .before in
+    let n = k₁ .decode .result .kind in
+    rw (eq-eqb _ _ (k₁ .before .if1 .left), ← k₁ .decode .ensures, le-leb 1 n (k₂ .if2 .left), le-leb n 13 (k₃ .if3 .left), ← k .before .limits-of .ensures, ← k .fields-fit .ensures, not-false (k .fields-fit .result) (c .if4 .left))
 
 pub read-post-spec : {M : Type 1} → statement M
 read-post-spec =

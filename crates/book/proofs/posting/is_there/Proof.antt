@@ -19,7 +19,11 @@ returns-2 : tie.Need-returns-2
 returns-2 c = let k = c .before .before .before .before .args .p .kind in rw (ne-eqb k 3 (c .before .before .if1 .left), lt-leb 5 k (c .if2 .taken))
 
 returns-3 : tie.Need-returns-3
-returns-3 c = let k = c .before .before .before .before .before .before .args .p .kind in rw (ne-eqb k 3 (c .before .before .before .before .if1 .left), le-leb 5 k (c .before .before .if2 .left), lt-leb k 12 (c .if3 .taken))
+returns-3 c =
+    let k₂ = c .before .before in
+    let k₁ = k₂ .before .before in
+    let k = k₁ .before .before .args .p .kind in
+    rw (ne-eqb k 3 (k₁ .if1 .left), le-leb 5 k (k₂ .if2 .left), lt-leb k 12 (c .if3 .taken))
 
 cast-pair : tie.Need-cast-pair
 cast-pair c = search needs
@@ -46,7 +50,12 @@ element-copy-out-result-2 : tie.Need-element-copy-out-result-2
 element-copy-out-result-2 c = search needs
 
 returns-4 : tie.Need-returns-4
-returns-4 c = let k = c .before .before .before .before .before .before .before .before .before .args .p .kind in rw (ne-eqb k 3 (c .before .before .before .before .before .before .before .if1 .left), le-leb 5 k (c .before .before .before .before .before .if2 .left), le-leb k 12 (c .before .before .before .if3 .left))
+returns-4 c =
+    let k₃ = c .before .before .before in
+    let k₂ = k₃ .before .before in
+    let k₁ = k₂ .before .before in
+    let k = k₁ .before .before .args .p .kind in
+    rw (ne-eqb k 3 (k₁ .if1 .left), le-leb 5 k (k₂ .if2 .left), le-leb k 12 (k₃ .if3 .left))
 
 pub is-there-spec : {M : Type 1} → statement M
 is-there-spec =
