@@ -129,23 +129,37 @@ on-room : (posts : ℕ) (p : Post) → hasRoom posts p ≡ true → p .kind ≤ 
 on-room posts p h l = ltb-true posts 4000 (rw (ne-eqb (p .kind) 13 (λ e. absurd (omega arith))) at h)
 
 module _ (b : Book) (s : List ℕ) (sound : Sound b) where
+  placed : AllPass (readChecks (b .setup .outline) (b .setup .numbers) (b .closed) s)
+      → (postAt s .kind ≤ 3 → postAt s .material < 12) × (postAt s .stage < 8) × (postAt s .substance < 8)
+  placed z =
+      let k = laid (b .setup .outline) s (z .1 .1 .0) .bounded in
+      let u = sound .setup in
+      (λ m. omega (arith, k .material m, u .materials-few), omega (arith, k .stage, u .stages-few), omega (arith, k .substance, u .substances-few))
+
+  -- where a post that was read leaves a store or a holding, the book has the place
+  pub in-place : (r : Reading) → reads b s ≡ taken r → (r .post .kind ≡ 3 → r .post .material < 12) × (r .post .stage < 8) × (r .post .substance < 8)
+  in-place r e =
+      let z = was-read (b .setup .outline) (b .setup .numbers) (b .closed) s r e in
+      let w = placed (z .0) in
+      rw (z .1) (λ k. w .0 (omega arith), w .1, w .2)
+
   pub applies : (r : Reading) → reads b s ≡ taken r → room b s ≡ true → there b s ≡ true → Applies b (postAt s) (amount b s)
   applies r e f g =
       let o = b .setup .outline in
       let numbers = b .setup .numbers in
       let p = postAt s in
       let z = was-read o numbers (b .closed) s r e .0 in
+      let w = placed z in
       let l = laid o s (z .1 .1 .0) in
       let k = l .bounded in
-      let u = sound .setup in
       let h = on-there (b .store) (b .sums) p (amount b s) g in
       record {
         in-turn = z .0;
         is-open = not-true (b .closed) (z .1 .0);
         kind = l .kind;
-        material = λ m. omega (arith, k .material m, u .materials-few);
-        stage = omega (arith, k .stage, u .stages-few);
-        substance = omega (arith, k .substance, u .substances-few);
+        material = w .0;
+        stage = w .1;
+        substance = w .2;
         grams = k .grams;
         amount = amount-small o numbers p k;
         formed = amount-formed numbers p;
