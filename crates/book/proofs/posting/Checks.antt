@@ -1,5 +1,5 @@
 -- Going through the checks of a post, 4 to 9 and then 10 and 11, and what passing them tells. Assumes nothing.
-use mathlib.Core.Path.{_≡_, refl, sym, ap, _∙_}
+use mathlib.Core.Path.{_≡_, refl, sym, ap, subst, _∙_}
 use mathlib.Core.Bool.{Bool, true, false}
 use mathlib.Core.List.{List, [], _∷_, _++_}
 use Prim.Native.Nat.{ℕ, _≤_, _<_}
@@ -18,7 +18,7 @@ use Rattle.book.specs.declared.outline.Outline.{Outline}
 use Rattle.book.specs.declared.post.Post.{Post}
 use Rattle.book.specs.declared.posting.Reading.{Reading}
 use Rattle.book.specs.declared.site.Book.{Book}
-use Rattle.book.proofs.post.Laws.{laid, loss-refused, loss-weighed, amount-small, amount-formed}
+use Rattle.book.proofs.post.Laws.{Laid, laid, loss-refused, loss-weighed, amount-small, amount-formed}
 
 -- ---- tables
 
@@ -88,90 +88,106 @@ module _ (b : Book) (s : List ℕ) where
   abbrev reads : Answer Reading
   reads = readOf (b .setup .outline) (b .setup .numbers) (b .closed) s
 
-  abbrev amount : ℕ
-  amount = amountOf (b .setup .numbers) (postAt s)
+  abbrev asked : Reading
+  asked = record { post = postAt s; amount = amountOf (b .setup .numbers) (postAt s) }
 
-  abbrev room : Bool
-  room = hasRoom (b .posts) (postAt s)
+  abbrev room : Reading → Bool
+  room r = hasRoom (b .posts) (r .post)
 
-  abbrev there : Bool
-  there = isThere (b .store) (b .sums) (postAt s) amount
+  abbrev there : Reading → Bool
+  there r = isThere (b .store) (b .sums) (r .post) (r .amount)
 
-  post-is : postOn b s ≡ onTaken reads (λ _. checked (bookChecks b (postAt s) amount) (applied b (postAt s) amount))
+  abbrev after : Reading → Book
+  after r = applied b (r .post) (r .amount)
+
+  post-is : postOn b s ≡ onTaken reads (λ _. checked (bookChecks b (asked .post) (asked .amount)) (after asked))
   unfolding postOn readOf
-  post-is = checked-append (readChecks (b .setup .outline) (b .setup .numbers) (b .closed) s) (bookChecks b (postAt s) amount) (applied b (postAt s) amount) _
+  post-is =
+      checked-append (readChecks (b .setup .outline) (b .setup .numbers) (b .closed) s) (bookChecks b (asked .post) (asked .amount))
+      (after asked)
+      _
 
   pub post-declined : (n : ℕ) → reads ≡ declined n → postOn b s ≡ declined n
   post-declined n e = post-is ∙ rw e
 
+  -- what holds of the post asked holds of it as read
   module _ (r : Reading) (e : reads ≡ taken r) where
-    pub post-full : room ≡ false → postOn b s ≡ declined 10
-    unfolding checked
-    post-full f = post-is ∙ rw (e, f)
+    as-read : (P : Reading → Type 0) → P asked → P r
+    as-read P h = subst P (sym (was-read (b .setup .outline) (b .setup .numbers) (b .closed) s r e .1)) h
 
-    pub post-short : room ≡ true → there ≡ false → postOn b s ≡ declined 11
+    pub post-full : room r ≡ false → postOn b s ≡ declined 10
     unfolding checked
-    post-short f g = post-is ∙ rw (e, f, g)
+    post-full = as-read (λ x. room x ≡ false → postOn b s ≡ declined 10) (λ f. post-is ∙ rw (e, f))
 
-    pub post-taken : room ≡ true → there ≡ true → postOn b s ≡ taken (applied b (postAt s) amount)
+    pub post-short : room r ≡ true → there r ≡ false → postOn b s ≡ declined 11
     unfolding checked
-    post-taken f g = post-is ∙ rw (e, f, g)
+    post-short = as-read (λ x. room x ≡ true → there x ≡ false → postOn b s ≡ declined 11) (λ f g. post-is ∙ rw (e, f, g))
+
+    pub post-taken : room r ≡ true → there r ≡ true → postOn b s ≡ taken (after r)
+    unfolding checked
+    post-taken = as-read (λ x. room x ≡ true → there x ≡ true → postOn b s ≡ taken (after x)) (λ f g. post-is ∙ rw (e, f, g))
 
 -- ---- a post that passes every check can be applied
 
-on-there : (store sums : List ℕ) (p : Post) (n : ℕ) → isThere store sums p n ≡ true → (p .kind ≡ 3 → p .quantity ≤ getD store (p .material) 0) × (5 ≤ p .kind → p .kind ≤ 12 → n ≤ cell sums held (p .stage) (p .substance))
+on-there : (store sums : List ℕ) (p : Post) (n : ℕ) → isThere store sums p n ≡ true
+    → (p .kind ≡ 3 → p .quantity ≤ getD store (p .material) 0)
+    × (5 ≤ p .kind → p .kind ≤ 12 → n ≤ cell sums held (p .stage) (p .substance))
 on-there store sums p n h = (
   λ e. leb-true (p .quantity) (getD store (p .material) 0) (rw (eq-eqb (p .kind) 3 e) at h),
-  λ l m. leb-true n (cell sums held (p .stage) (p .substance)) (rw (ne-eqb (p .kind) 3 (λ e. absurd (omega arith)), le-leb 5 (p .kind) l, le-leb (p .kind) 12 m) at h),
+  λ l m.
+      leb-true n (cell sums held (p .stage) (p .substance))
+      (rw (ne-eqb (p .kind) 3 (λ e. absurd (omega arith)), le-leb 5 (p .kind) l, le-leb (p .kind) 12 m) at h),
 )
 
 on-room : (posts : ℕ) (p : Post) → hasRoom posts p ≡ true → p .kind ≤ 12 → posts < 4000
 on-room posts p h l = ltb-true posts 4000 (rw (ne-eqb (p .kind) 13 (λ e. absurd (omega arith))) at h)
 
 module _ (b : Book) (s : List ℕ) (sound : Sound b) where
-  placed : AllPass (readChecks (b .setup .outline) (b .setup .numbers) (b .closed) s)
-      → (postAt s .kind ≤ 3 → postAt s .material < 12) × (postAt s .stage < 8) × (postAt s .substance < 8)
-  placed z =
-      let k = laid (b .setup .outline) s (z .1 .1 .0) .bounded in
-      let u = sound .setup in
-      (λ m. omega (arith, k .material m, u .materials-few), omega (arith, k .stage, u .stages-few), omega (arith, k .substance, u .substances-few))
+  module _ (r : Reading) (e : reads b s ≡ taken r) where
+    passes : AllPass (readChecks (b .setup .outline) (b .setup .numbers) (b .closed) s)
+    passes = was-read (b .setup .outline) (b .setup .numbers) (b .closed) s r e .0
 
-  -- where a post that was read leaves a store or a holding, the book has the place
-  pub in-place : (r : Reading) → reads b s ≡ taken r → (r .post .kind ≡ 3 → r .post .material < 12) × (r .post .stage < 8) × (r .post .substance < 8)
-  in-place r e =
-      let z = was-read (b .setup .outline) (b .setup .numbers) (b .closed) s r e in
-      let w = placed (z .0) in
-      rw (z .1) (λ k. w .0 (omega arith), w .1, w .2)
+    told : Laid (b .setup .outline) s
+    told = laid (b .setup .outline) s (passes .1 .1 .0)
 
-  pub applies : (r : Reading) → reads b s ≡ taken r → room b s ≡ true → there b s ≡ true → Applies b (postAt s) (amount b s)
-  applies r e f g =
-      let o = b .setup .outline in
-      let numbers = b .setup .numbers in
-      let p = postAt s in
-      let z = was-read o numbers (b .closed) s r e .0 in
-      let w = placed z in
-      let l = laid o s (z .1 .1 .0) in
-      let k = l .bounded in
-      let h = on-there (b .store) (b .sums) p (amount b s) g in
-      record {
-        in-turn = z .0;
-        is-open = not-true (b .closed) (z .1 .0);
-        kind = l .kind;
-        material = w .0;
-        stage = w .1;
-        substance = w .2;
-        grams = k .grams;
-        amount = amount-small o numbers p k;
-        formed = amount-formed numbers p;
-        room = on-room (b .posts) p f;
-        in-store = h .0;
-        in-holding = h .1;
-      }
+    placed : (postAt s .kind ≤ 3 → postAt s .material < 12) × (postAt s .stage < 8) × (postAt s .substance < 8)
+    placed =
+        let k = told .bounded in
+        let u = sound .setup in
+        (λ m. omega (arith, k .material m, u .materials-few), omega (arith, k .stage, u .stages-few), omega (arith, k .substance, u .substances-few))
 
-  pub post-was-taken : (c : Book) → postOn b s ≡ taken c → Applies b (postAt s) (amount b s) × (c ≡ applied b (postAt s) (amount b s))
+    -- where a post that was read leaves a store or a holding, the book has the place
+    pub in-place : (r .post .kind ≡ 3 → r .post .material < 12) × (r .post .stage < 8) × (r .post .substance < 8)
+    in-place =
+        as-read b s r e (λ x. (x .post .kind ≡ 3 → x .post .material < 12) × (x .post .stage < 8) × (x .post .substance < 8))
+        (λ k. placed .0 (omega arith), placed .1, placed .2)
+
+    applies-asked : room b s (asked b s) ≡ true → there b s (asked b s) ≡ true → Applies b (postAt s) (asked b s .amount)
+    applies-asked f g =
+        let k = told .bounded in
+        let h = on-there (b .store) (b .sums) (postAt s) (asked b s .amount) g in
+        record {
+          in-turn = passes .0;
+          is-open = not-true (b .closed) (passes .1 .0);
+          kind = told .kind;
+          material = placed .0;
+          stage = placed .1;
+          substance = placed .2;
+          grams = k .grams;
+          amount = amount-small (b .setup .outline) (b .setup .numbers) (postAt s) k;
+          formed = amount-formed (b .setup .numbers) (postAt s);
+          room = on-room (b .posts) (postAt s) f;
+          in-store = h .0;
+          in-holding = h .1;
+        }
+
+    pub applies : room b s r ≡ true → there b s r ≡ true → Applies b (r .post) (r .amount)
+    applies = as-read b s r e (λ x. room b s x ≡ true → there b s x ≡ true → Applies b (x .post) (x .amount)) applies-asked
+
+  pub post-was-taken : (c : Book) → postOn b s ≡ taken c
+      → Applies b (postAt s) (amountOf (b .setup .numbers) (postAt s)) × (c ≡ applied b (postAt s) (amountOf (b .setup .numbers) (postAt s)))
   post-was-taken c e =
-      let after = applied b (postAt s) (amount b s) in
-      let rows = bookChecks b (postAt s) (amount b s) in
-      let z = was-taken (reads b s) (λ _. checked rows after) c (sym (post-is b s) ∙ e) in
-      let y = passed rows after c (z .2) in
-      (applies (z .0) (z .1) (y .0 .0) (y .0 .1 .0), y .1)
+      let rows = bookChecks b (asked b s .post) (asked b s .amount) in
+      let z = was-taken (reads b s) (λ _. checked rows (after b s (asked b s))) c (sym (post-is b s) ∙ e) in
+      let y = passed rows (after b s (asked b s)) c (z .2) in
+      (applies-asked (z .0) (z .1) (y .0 .0) (y .0 .1 .0), y .1)
