@@ -8,6 +8,18 @@ pub data Answer (A : Type 0) : Type 0 where
   taken : A → Answer A
   declined : ℕ → Answer A
 
+-- 1: the block isn't 512 bytes or lacks "PRTR"
+abbrev pub noBlock : ℕ
+noBlock = 1
+
+-- 2: a check sum differs
+abbrev pub checkSum : ℕ
+checkSum = 2
+
+-- 3: the kind isn't 1–3 or the block number isn't the next
+abbrev pub blockNumber : ℕ
+blockNumber = 3
+
 -- 4: a set-up block comes out of its turn, or a post or a block of posts before the last stage is described
 abbrev pub turn : ℕ
 turn = 4

@@ -5,6 +5,15 @@ pub struct Decline {
     pub number: u8,
 }
 
+// The block isn't 512 bytes or lacks "PRTR".
+pub const NO_BLOCK: Decline = Decline { number: 1 };
+
+// A check sum differs.
+pub const CHECK_SUM: Decline = Decline { number: 2 };
+
+// The kind isn't 1 to 3 or the block number isn't the next.
+pub const NUMBER: Decline = Decline { number: 3 };
+
 // A set-up comes out of its turn, or a post before the last stage is described.
 pub const TURN: Decline = Decline { number: 4 };
 

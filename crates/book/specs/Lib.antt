@@ -11,3 +11,4 @@ pub mod Entered
 pub mod Posting
 pub mod Report
 pub mod Reporting
+pub mod Posts

@@ -5,6 +5,7 @@ pub mod ledger;
 pub mod outline;
 pub mod post;
 pub mod posting;
+pub mod posts;
 pub mod report;
 pub mod setup;
 pub mod site;

@@ -1,0 +1,90 @@
+// Kind 3: the posts of a block, taken whole or not at all.
+ghost use mathlib.Core.Path.{_≡_};
+ghost use Prim.Native.Nat.{_*_, _≤_};
+ghost use lib.ListN.{length};
+ghost use Rattle.amounts.specs.Decline.{checked};
+ghost use Rattle.book.specs.Answer.{verdictOf, outcome};
+ghost use Rattle.book.specs.Posts.{postIn, takenTo, ownChecks, postsOn};
+ghost use Rattle.book.specs.Site.{Sound};
+use crate::answer;
+use crate::answer::Answered;
+use crate::answer::Verdict;
+use crate::bytes;
+use crate::outline;
+use crate::outline::Outline;
+use crate::posting;
+use crate::setup;
+use crate::site::Book;
+use amounts::decline;
+
+// Each post is tried on the book that the earlier ones left; at a decline the book given in comes back.
+fn take_all(b: Book, body: &[u8], n: usize) -> Answered
+    requires { ⌜ Sound b ⌝ }
+    requires { ⌜ n * 48 ≤ length (now body) ⌝ }
+    ensures { λ r. ⌜ r ≡ outcome b (takenTo b (postIn (now (body .entry))) n) ⌝ }
+    ensures { λ r. ⌜ Sound (r .book) ⌝ }
+{
+    let mut left = b;
+    let mut i: usize = 0;
+    while i < n {
+        let at = i * 48;
+        let a = posting::take_post(left, &body[at..at + 48]);
+        let v = a.verdict;
+        if let Verdict::Declined(d) = v {
+            return answer::declined(b, d);
+        }
+        let next = a.book;
+        left = next;
+        i += 1;
+    }
+    Answered {
+        verdict: Verdict::Accepted,
+        book: left,
+    }
+}
+
+fn check_posts(o: Outline, closed: bool, count: u8, body: &[u8]) -> Verdict
+    ensures { λ r. ⌜ r ≡ verdictOf (checked (ownChecks o closed count (now (body .entry))) (tt {0})) ⌝ }
+{
+    if !outline::may_post(o) {
+        return Verdict::Declined(decline::TURN);
+    }
+    if closed {
+        return Verdict::Declined(decline::CLOSED);
+    }
+    if body.len() != 500 {
+        return Verdict::Declined(decline::LAYOUT);
+    }
+    if !setup::is_within(1, 10, count) {
+        return Verdict::Declined(decline::LAYOUT);
+    }
+    let from = (count as usize) * 48;
+    if !bytes::all_zero(&body[from..]) {
+        return Verdict::Declined(decline::LAYOUT);
+    }
+    Verdict::Accepted
+}
+
+// The book with the posts of a kind 3 block.
+pub fn take_posts(b: Book, count: u8, body: &[u8]) -> Answered
+    requires { ⌜ Sound b ⌝ }
+    ensures { λ r. ⌜ r ≡ outcome b (postsOn b count (now (body .entry))) ⌝ }
+    ensures { λ r. ⌜ Sound (r .book) ⌝ }
+{
+    let setup = b.setup;
+    let o = setup.outline;
+    if let Verdict::Declined(d) = check_posts(o, b.closed, count, body) {
+        return answer::declined(b, d);
+    }
+    let a = take_all(b, body, count as usize);
+    let v = a.verdict;
+    if let Verdict::Declined(d) = v {
+        return answer::declined(b, d);
+    }
+    let mut c = a.book;
+    c.blocks = c.blocks + 1;
+    Answered {
+        verdict: Verdict::Accepted,
+        book: c,
+    }
+}
