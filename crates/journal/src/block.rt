@@ -4,6 +4,7 @@ ghost use Prim.Native.Nat.{_≤_};
 ghost use lib.ListN.{length};
 ghost use Rattle.amounts.specs.Decline.{checked};
 ghost use Rattle.book.specs.Answer.{verdictOf, outcome};
+ghost use Rattle.book.specs.Setup.{within};
 ghost use Rattle.book.specs.Site.{Sound};
 ghost use Rattle.journal.specs.Block.{hasTag, plainSum, weightedSum, frameChecks, blockOn};
 use amounts::decline;
@@ -57,6 +58,15 @@ fn wide(x: u8) -> u64
     x as u64
 }
 
+fn is_kind(kind: u8) -> bool
+    ensures { λ r. ⌜ r ≡ within 1 3 kind ⌝ }
+{
+    if kind < 1 {
+        return false;
+    }
+    kind <= 3
+}
+
 // Declines 1 to 3.
 fn check_frame(number: u32, s: &[u8]) -> Verdict
     ensures { λ r. ⌜ r ≡ verdictOf (checked (frameChecks number (now (s .entry))) (tt {0})) ⌝ }
@@ -74,10 +84,7 @@ fn check_frame(number: u32, s: &[u8]) -> Verdict
     if book::bytes::le16(s, 510) != sums.weighted {
         return Verdict::Declined(decline::CHECK_SUM);
     }
-    if s[4] < 1 {
-        return Verdict::Declined(decline::NUMBER);
-    }
-    if s[4] > 3 {
+    if !is_kind(s[4]) {
         return Verdict::Declined(decline::NUMBER);
     }
     let own = book::bytes::le16(s, 6);

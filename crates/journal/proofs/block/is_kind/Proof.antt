@@ -1,0 +1,12 @@
+use borrow.Author.Tests.{le-leb, lt-leb}
+use Rattle.journal.proofs.block.is_kind.Statement.{statement}
+use Rattle.journal.proofs.block.is_kind.Tie as tie
+
+returns : tie.Need-returns
+returns c = rw (lt-leb 1 (c .before .args .kind) (c .if1 .taken))
+
+returns-2 : tie.Need-returns-2
+returns-2 c = rw (le-leb 1 (c .before .args .kind) (c .if1 .left))
+
+pub is-kind-spec : {M : Type 1} → statement M
+is-kind-spec = tie.close (tie.spec returns returns-2)
