@@ -1,5 +1,5 @@
 -- A set-up block that is accepted leaves a sound book. Assumes nothing.
-use mathlib.Core.Path.{_≡_, refl}
+use mathlib.Core.Path.{_≡_, refl, sym, ap, subst, _∙_}
 use mathlib.Core.Bool.{Bool, true, false, cond}
 use mathlib.Core.List.{List, [], _∷_}
 use Prim.Native.Nat.{ℕ, _%_, _≤_}
@@ -10,16 +10,16 @@ use lib.ListN.{length, getD, length-replicate}
 use borrow.Author.Tests.{eqb-true, eq-eqb, leb-true}
 use Rattle.amounts.specs.Class.{isClass}
 use Rattle.amounts.specs.Content.{countedFrom, countedOf}
-use Rattle.amounts.specs.Decline.{check, checked, valueOr, layout}
+use Rattle.amounts.specs.Decline.{taken, check, checked, valueOr, layout}
 use Rattle.book.specs.Answer.{verdictOf}
 use Rattle.book.specs.Ledger.{noRates}
-use Rattle.book.specs.Setup.{materialsIn, stagesIn, classesIn, contentsIn, countedAll, setupChecks, setupOf, withSetup}
+use Rattle.book.specs.Setup.{materialsIn, stagesIn, classesIn, contentsIn, countedAll, setupChecks, setupOf, withSetup, setUpOn}
 use Rattle.book.specs.Site.{Sound, SoundSetup}
 use Rattle.book.specs.declared.answer.Verdict.the-variants.{Accepted}
 use Rattle.book.specs.declared.outline.Outline.{Outline}
 use Rattle.book.specs.declared.site.Book.{Book}
 use Rattle.book.proofs.Each.{list-keeps}
-use Rattle.book.proofs.answer.Laws.{first}
+use Rattle.book.proofs.answer.Laws.{first, took}
 use Rattle.book.proofs.setup.Laws.{within-true}
 use Rattle.book.proofs.site.Laws.{none-rated, sound-setup}
 
@@ -66,6 +66,10 @@ accepted o count body e =
 pub none-first : (b : Book) → Sound b → b .setup .outline .substances ≡ 0 → b .posts ≡ 0
 none-first b h e = h .none-before (rw (eq-eqb (b .setup .outline .substances) 0 e))
 
+-- nor is a stage described
+pub none-described : (b : Book) → Sound b → b .setup .outline .substances ≡ 0 → b .setup .outline .described ≡ 0
+none-described b h e = omega (arith, h .setup .stages-later e, h .setup .described-few)
+
 pub sound-setup-of : (o : Outline) (count : ℕ) (body : List ℕ) → Accepts o count body → SoundSetup (setupOf count body)
 sound-setup-of o count body a =
     record {
@@ -81,10 +85,15 @@ sound-setup-of o count body a =
       residue-long = length-replicate {A = ℕ} 8 0;
     }
 
--- where no stage is described yet
-pub sound-set-up : (b : Book) (count : ℕ) (body : List ℕ) → Sound b → b .setup .outline .described ≡ 0 → Accepts (b .setup .outline) count body
-    → Sound (withSetup b (setupOf count body))
-sound-set-up b count body h undescribed a =
-    let none = none-first b h (a .none) in
-    sound-setup b (setupOf count body) h none (sound-setup-of (b .setup .outline) count body a)
-    (omega (arith, h .blocks-few, min-le-left (b .setup .outline .substances) 1, min-eq-right (a .substances .0), a .none))
+pub sound-set-up : (b : Book) (count : ℕ) (body : List ℕ) → Sound b → Accepts (b .setup .outline) count body → Sound (withSetup b (setupOf count body))
+sound-set-up b count body h a =
+    sound-setup b (setupOf count body) h (none-first b h (a .none)) (sound-setup-of (b .setup .outline) count body a)
+    (omega (arith, h .blocks-few, none-first b h (a .none), none-described b h (a .none), min-le-left (b .setup .outline .substances) 1, min-eq-right (a .substances .0), a .none))
+
+pub set-up-taken : (b c : Book) (count : ℕ) (body : List ℕ) → Sound b → setUpOn b count body ≡ taken c
+    → (c ≡ withSetup b (setupOf count body)) × Accepts (b .setup .outline) count body × Sound c × (c .posts ≡ 0)
+unfolding setUpOn
+set-up-taken b c count body h e =
+    let z = took (withSetup b (setupOf count body)) (tt {0}) (setupChecks (b .setup .outline) count body) c e in
+    let a = accepted (b .setup .outline) count body (z .0) in
+    (z .1, a, subst Sound (sym (z .1)) (sound-set-up b count body h a), ap (λ (x : Book). x .posts) (z .1) ∙ none-first b h (a .none))

@@ -1,5 +1,5 @@
 -- A stage block that is accepted leaves a sound book. Assumes nothing.
-use mathlib.Core.Path.{_≡_, refl, ap, _∙_}
+use mathlib.Core.Path.{_≡_, refl, sym, ap, subst, _∙_}
 use mathlib.Core.Bool.{Bool, true, false, not, _&&_}
 use mathlib.Core.List.{List}
 use Prim.Native.Nat.{ℕ, _+_, _*_, _≤_, _<_}
@@ -8,19 +8,19 @@ use lib.Dec.{eqb, ltb}
 use lib.ListN.{length, getD, drop, set, length-set}
 use borrow.Author.Tests.{eqb-true, ne-eqb, leb-true, ltb-true}
 use Rattle.amounts.specs.Content.{isPpm}
-use Rattle.amounts.specs.Decline.{checked}
+use Rattle.amounts.specs.Decline.{taken, checked}
 use Rattle.book.specs.Answer.{verdictOf}
 use Rattle.book.specs.Ledger.{noRates}
 use Rattle.book.specs.Setup.{within, withSetup}
 use Rattle.book.specs.Site.{Sound, SoundSetup, Rated}
-use Rattle.book.specs.Stage.{rateRow, ratesFit, allRatesFit, stageChecks, withStage}
+use Rattle.book.specs.Stage.{rateRow, ratesFit, allRatesFit, stageChecks, withStage, describedOn}
 use Rattle.book.specs.declared.answer.Verdict.the-variants.{Accepted}
 use Rattle.book.specs.declared.outline.Outline.{Outline}
 use Rattle.book.specs.declared.site.Book.{Book}
 use Rattle.book.specs.declared.site.Rates.{Rates}
 use Rattle.book.specs.declared.site.Setup.{Setup}
 use Rattle.book.proofs.Each.{and-true, all-at, length-put, put-keeps}
-use Rattle.book.proofs.answer.Laws.{first}
+use Rattle.book.proofs.answer.Laws.{first, took}
 use Rattle.book.proofs.site.Laws.{sound-setup}
 
 pub fit-rated : (r : Rates) → ratesFit r ≡ true → Rated r
@@ -111,3 +111,11 @@ pub sound-described : (b : Book) (stage : ℕ) (body : List ℕ) → Sound b →
 sound-described b stage body h a =
     let none = none-left b h (a .left) in
     sound-setup b (withStage (b .setup) stage body) h none (sound-stage (b .setup) stage body (h .setup) a) (omega (arith, h .blocks-few, a .next))
+
+pub described-taken : (b c : Book) (stage : ℕ) (body : List ℕ) → Sound b → describedOn b stage body ≡ taken c
+    → (c ≡ withSetup b (withStage (b .setup) stage body)) × Accepts (b .setup .outline) stage body × Sound c × (c .posts ≡ 0)
+unfolding describedOn
+described-taken b c stage body h e =
+    let z = took (withSetup b (withStage (b .setup) stage body)) (tt {0}) (stageChecks (b .setup .outline) stage body) c e in
+    let a = accepted (b .setup .outline) stage body (z .0) in
+    (z .1, a, subst Sound (sym (z .1)) (sound-described b stage body h a), ap (λ (x : Book). x .posts) (z .1) ∙ none-left b h (a .left))

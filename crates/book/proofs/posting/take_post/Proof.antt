@@ -3,14 +3,13 @@ use mathlib.Core.Bool.{true}
 use mathlib.Core.List.{List}
 use Prim.Native.Nat.{ℕ}
 use borrow.Author.Needs.{needs}
-use Rattle.amounts.specs.Decline.{taken, declined}
+use Rattle.amounts.specs.Decline.{taken}
 use Rattle.book.specs.Answer.{outcome}
 use Rattle.book.specs.Posting.{hasRoom, isThere, postOn, readOf, readAnswer}
 use Rattle.book.specs.Site.{Sound}
-use Rattle.book.specs.declared.answer.Answered.{Answered}
 use Rattle.book.specs.declared.posting.Reading.{Reading}
 use Rattle.book.specs.declared.site.Book.{Book}
-use Rattle.book.proofs.answer.Laws.{holds, misses}
+use Rattle.book.proofs.answer.Laws.{holds, misses, stays}
 use Rattle.book.proofs.posting.Checks.{post-declined, post-full, post-short, post-taken, in-place, applies}
 use Rattle.book.proofs.posting.Laws.{applied-step}
 use denote.Ref.{now}
@@ -38,10 +37,6 @@ has-place c = holds (c .before .has-room .ensures) (c .if1 .left)
 has-all : (c : tie.Else2) → isThere (book (c .before .before .before .before .before .before .before .before) .store) (book (c .before .before .before .before .before .before .before .before) .sums) (reading (c .before .before .before .before .before .before .before .before) .post) (reading (c .before .before .before .before .before .before .before .before) .amount) ≡ true
 has-all c = holds (c .before .is-there .ensures) (c .if2 .left)
 
--- a decline leaves the book as it was
-stands : (b : Book) (s : List ℕ) (n : ℕ) (r : Answered) → Sound b → postOn b s ≡ declined n → r ≡ outcome b (declined n) → (r ≡ outcome b (postOn b s)) × Sound (r .book)
-stands b s n r h e q = (q ∙ ap (outcome b) (sym e), rw q h)
-
 read-requires : tie.Need-read-requires
 read-requires c κs = search needs
 
@@ -63,9 +58,10 @@ declined-requires-2 c κs = search needs
 returns : tie.Need-returns
 returns c =
     let k = c .before .before .before .before in
-    stands (book k) (bytes k) 10 _ (start k .pre)
+    stays Sound (book k) (postOn (book k) (bytes k)) 10 _
     (post-full (book k) (bytes k) (reading k) (was-read k) (misses (c .before .before .has-room .ensures) (c .before .if1 .taken)))
     (c .declined2 .ensures)
+    (start k .pre)
 
 is-there-requires : tie.Need-is-there-requires
 is-there-requires c κs =
@@ -78,10 +74,11 @@ declined-requires-3 c κs = search needs
 returns-2 : tie.Need-returns-2
 returns-2 c =
     let k = c .before .before .before .before .before .before .before .before .before in
-    stands (book k) (bytes k) 11 _ (start k .pre)
+    stays Sound (book k) (postOn (book k) (bytes k)) 11 _
     (post-short (book k) (bytes k) (reading k) (was-read k) (has-place (c .before .before .before .before .before .before))
     (misses (c .before .before .is-there .ensures) (c .before .if2 .taken)))
     (c .declined3 .ensures)
+    (start k .pre)
 
 apply-requires : tie.Need-apply-requires
 apply-requires c κs =
@@ -91,9 +88,10 @@ apply-requires c κs =
 returns-3 : tie.Need-returns-3
 returns-3 c =
     let k = c .before .before .before .before .before .before .before .before .before .before in
-    stands (k .args .t1) (now (k .args .s)) _ _ (k .pre)
+    stays Sound (k .args .t1) (postOn (k .args .t1) (now (k .args .s))) _ _
     (post-declined (k .args .t1) (now (k .args .s)) _ (sym (c .before .before .before .before .read .ensures) ∙ ap readAnswer (c .before .before .d .given .1)))
     (c .declined .ensures)
+    (k .pre)
 
 returns-4 : tie.Need-returns-4
 returns-4 c =

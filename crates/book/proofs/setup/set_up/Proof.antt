@@ -1,6 +1,5 @@
-use mathlib.Core.Path.{_≡_, sym, ap, _∙_}
+use mathlib.Core.Path.{sym, ap, _∙_}
 use denote.Ref.{now}
-use native.Mathlib.Omega.{arith}
 use Rattle.book.specs.Setup.{setupChecks, setupOf, setUpOn, withSetup}
 use Rattle.book.specs.Site.{Sound}
 use Rattle.book.specs.declared.site.Setup.{Setup}
@@ -47,11 +46,10 @@ returns-2 c =
     let s = k .before .before .before .before .before .before in
     let a = s .args in
     let u = setupOf (a .count) (now (a .body)) in
-    let undescribed : a .b .setup .outline .described ≡ 0 = omega (arith, s .pre .setup .stages-later (taken k .none), s .pre .setup .described-few) in
     grants Sound (a .b) (withSetup (a .b) u) (withSetup (a .b) (c .before .parse .result)) (setupChecks (a .b .setup .outline) (a .count) (now (a .body)))
     (sym (k .enum-told .given .1) ∙ k .before .before .check-setup .ensures)
     (ap (λ (x : Setup). withSetup (a .b) x) (c .before .parse .ensures))
-    (sound-set-up (a .b) (a .count) (now (a .body)) (s .pre) undescribed (taken k))
+    (sound-set-up (a .b) (a .count) (now (a .body)) (s .pre) (taken k))
 
 pub set-up-spec : {M : Type 1} → statement M
 set-up-spec =

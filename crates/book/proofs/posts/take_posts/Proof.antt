@@ -1,0 +1,100 @@
+use mathlib.Core.Path.{_≡_, sym, ap, _∙_}
+use denote.Ref.{now}
+use native.Mathlib.Omega.{arith}
+use borrow.Author.Needs.{needs}
+use Rattle.amounts.specs.Decline.{taken}
+use Rattle.book.specs.Answer.{outcome}
+use Rattle.book.specs.Posts.{postIn, takenTo, ownChecks, postsOn}
+use Rattle.book.specs.Site.{Sound}
+use Rattle.book.proofs.answer.Laws.{accepts, declines, stays, was-accepted, was-declined}
+use Rattle.book.proofs.posts.Laws.{owned, own, own-declined, post-declined, all-taken, posts-sound}
+use Rattle.book.proofs.posts.take_posts.Statement.{statement}
+use Rattle.book.proofs.posts.take_posts.Tie as tie
+
+passes : (c : tie.After-enum-told) → let a = c .before .before .before .before .before .before .args in owned (a .b) (a .count) (now (a .body)) ≡ taken (a .count)
+passes c =
+    let a = c .before .before .before .before .before .before .args in
+    accepts (tt {0}) (a .count) (ownChecks (a .b .setup .outline) (a .b .closed) (a .count) (now (a .body))) (sym (c .enum-told .given .1) ∙ c .before .before .check-posts .ensures)
+
+check-posts-requires : tie.Need-check-posts-requires
+check-posts-requires c κs = search needs
+
+enum-known-d : tie.Need-enum-known-d
+enum-known-d c = search needs
+
+declined-requires : tie.Need-declined-requires
+declined-requires c κs = search needs
+
+returns : tie.Need-returns
+returns c =
+    let s = c .before .before .before .before .before .before .before .before in
+    let a = s .args in
+    let d = c .before .before .d .given .0 .0 in
+    stays Sound (a .b) (postsOn (a .b) (a .count) (now (a .body))) (d .number) (c .declined .result)
+    (own-declined (a .b) (a .count) (now (a .body)) (d .number)
+    (declines (tt {0}) (a .count) (ownChecks (a .b .setup .outline) (a .b .closed) (a .count) (now (a .body))) d (sym (c .before .before .d .given .1) ∙ c .before .before .before .before .check-posts .ensures)))
+    (c .declined .ensures)
+    (s .pre)
+
+enum-told : tie.Need-enum-told
+enum-told c = search needs
+
+take-all-requires : tie.Need-take-all-requires
+take-all-requires c κs =
+    let s = c .before .before .before .before .before .before in
+    let a = s .args in
+    let k = own (a .b .setup .outline) (a .b .closed) (a .count) (a .count) (now (a .body)) (passes c) .0 in
+    (s .pre, omega (arith, k .long, k .few))
+
+enum-known-v : tie.Need-enum-known-v
+enum-known-v c = search needs
+
+declined-requires-2 : tie.Need-declined-requires-2
+declined-requires-2 c κs = search needs
+
+returns-2 : tie.Need-returns-2
+returns-2 c =
+    let k = c .before .before .before .before .before in
+    let s = k .before .before .before .before .before .before in
+    let a = s .args in
+    let t = c .before .before .before .before .take-all in
+    let d = c .before .before .v .given .0 .0 in
+    stays Sound (a .b) (postsOn (a .b) (a .count) (now (a .body))) (d .number) (c .declined2 .result)
+    (post-declined (a .b) (a .count) (now (a .body)) (passes k) (d .number)
+    (was-declined (a .b) (takenTo (a .b) (postIn (now (a .body))) (a .count)) (t .result) d (t .ensures .0) (c .before .before .v .given .1)))
+    (c .declined2 .ensures)
+    (s .pre)
+
+enum-told-2 : tie.Need-enum-told-2
+enum-told-2 c = search needs
+
+add-c : tie.Need-add-c
+add-c c = search needs
+
+returns-3 : tie.Need-returns-3
+returns-3 c =
+    let k = c .before .before .before .before .before in
+    let s = k .before .before .before .before .before .before in
+    let a = s .args in
+    let t = c .before .before .before .before .take-all in
+    let e =
+    all-taken (a .b) (a .count) (now (a .body)) (passes k) (t .result .book)
+    (was-accepted (a .b) (takenTo (a .b) (postIn (now (a .body))) (a .count)) (t .result) (t .ensures .0) (c .before .before .enum-told2 .given .1)) in
+    (ap (outcome (a .b)) (sym e), posts-sound (a .b) _ (a .count) (now (a .body)) (s .pre) e)
+
+pub take-posts-spec : {M : Type 1} → statement M
+take-posts-spec =
+    tie.close
+    (tie.spec
+    check-posts-requires
+    enum-known-d
+    declined-requires
+    returns
+    enum-told
+    take-all-requires
+    enum-known-v
+    declined-requires-2
+    returns-2
+    enum-told-2
+    add-c
+    returns-3)
