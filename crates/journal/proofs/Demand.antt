@@ -33,7 +33,9 @@ use Rattle.book.proofs.setup.Laws.{within-true}
 use Rattle.book.proofs.site.Laws.{sound-fresh}
 use Rattle.journal.specs.Block.{kindOf, countOf, bodyOf, frameChecks, byKind, blockOn}
 use Rattle.journal.specs.Demand.{Call, post, block, answerTo, after, run, keep, accepted, postsIn, postsOf, orCounted, countedOf, sumOver, Balanced, Demand3}
-use Rattle.journal.proofs.Posts.{post-step, Many, many-taken, posts-count, posts-taken, posts-sound, set-up-taken, described-taken}
+use Rattle.book.proofs.posts.Laws.{post-step, Many, many-taken, posts-count, posts-taken, posts-sound}
+use Rattle.book.proofs.setup.Taken.{set-up-taken}
+use Rattle.book.proofs.stage.Taken.{described-taken}
 
 -- ---- an accepted block
 
@@ -194,15 +196,15 @@ stage-grown b stage body l h =
 block-turn : (b c : Book) (s : List ℕ) → Sound b → Kind b s c → Turn b (block s) c
 block-turn b c s h (sets k e) =
     let z = set-up-taken b c (countOf s) (bodyOf s) h e in
-    begins (z .0 .none) (z .2) (subst (λ (x : Book). 1 ≤ x .setup .outline .substances) (sym (z .1)) (z .0 .substances .0)) (z .3)
+    begins (z .1 .none) (z .2) (subst (λ (x : Book). 1 ≤ x .setup .outline .substances) (sym (z .0)) (z .1 .substances .0)) (z .3)
     (no-posts s (λ e. omega arith))
-    (λ others. its-contents s k others ∙ ap (λ (x : Book). x .setup .counted) (sym (z .1)))
+    (λ others. its-contents s k others ∙ ap (λ (x : Book). x .setup .counted) (sym (z .0)))
 block-turn b c s h (describes k e) =
     let z = described-taken b c (countOf s) (bodyOf s) h e in
-    let l = stage-later (b .setup .outline) (h .setup .stages-later) (z .0 .left) in
-    let g = stage-grown b (countOf s) (bodyOf s) l (subst Sound (z .1) (z .2)) in
+    let l = stage-later (b .setup .outline) (h .setup .stages-later) (z .1 .left) in
+    let g = stage-grown b (countOf s) (bodyOf s) l (subst Sound (z .0) (z .2)) in
     goes-on l (no-contents s (λ e. omega arith))
-    (rw (no-posts s (λ e. omega arith)) (subst (λ (x : Book). Grown (b .setup .counted) b [] x) (sym (z .1)) g))
+    (rw (no-posts s (λ e. omega arith)) (subst (λ (x : Book). Grown (b .setup .counted) b [] x) (sym (z .0)) g))
 block-turn b c s h (posts k e) =
     let z = posts-taken b c (countOf s) (bodyOf s) e in
     let l = post-later (b .setup .outline) (posts-count b c (countOf s) (bodyOf s) e .2) in
@@ -325,13 +327,15 @@ from-none x y z t p q r = omega arith
 balanced : (calls : List Call) (d : Book) (s : ℕ) → s < 8 → Sound d → Begun calls d → Balanced calls s (reportAt d s)
 balanced calls d s l h g =
     let c = g .start in
+    let out =
+    ap (λ (k : List ℕ). sumOver (λ p. handles k s (postAt p)) (postsOf calls)) (g .contents)
+    ∙ from-none _ _ _ _ (g .grown .handled s l) (nothing (getD (c .handled) s 0) (c .posts) (handled-few c (g .sound) s l) (g .none)) (report-handled d h s l) in
     record {
       weighed-in =
           ap (λ (k : List ℕ). sumOver (λ p. enters k s (postAt p)) (postsOf calls)) (g .contents)
           ∙ from-none _ _ _ _ (g .grown .entered s l) (nothing (content c s) (c .posts) (g .sound .bounded s l) (g .none)) (report-entered d h s l);
-      weighed-out =
-          ap (λ (k : List ℕ). sumOver (λ p. handles k s (postAt p)) (postsOf calls)) (g .contents)
-          ∙ from-none _ _ _ _ (g .grown .handled s l) (nothing (getD (c .handled) s 0) (c .posts) (handled-few c (g .sound) s l) (g .none)) (report-handled d h s l);
+      weighed-out = out;
+      shown = sym (report-handled d h s l) ∙ sym out;
       figures = λ e.
           let x = reportAt d s .line .headings in
           (mapHeadings filedOf x, ap (λ (t : Bool). filingOf t x) e, figures-within x (headings-fit d h s l));

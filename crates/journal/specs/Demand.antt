@@ -86,6 +86,8 @@ pub record Balanced (calls : List Call) (s : ℕ) (r : Report) : Type 0 where
   pub weighed-in : entered calls s ≡ r .store + weigh (r .line)
   -- "and handled = the same without store"
   pub weighed-out : handled calls s ≡ weigh (r .line)
+  -- which is what the report returns as handled
+  pub shown : r .handled ≡ handled calls s
   -- the filed figures and the exact amounts: "each heading's step is the one that its exact amount takes"
   pub figures : r .due ≡ true → (h : Headings) × (r .filed ≡ Figures h) × within (sixOf (mapHeadings stepOf (r .line .headings))) (sixOf h) (sixOf (r .line .headings))
   -- "the count of posts accepted"

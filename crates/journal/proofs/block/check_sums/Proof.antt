@@ -64,12 +64,13 @@ loop-again : tie.Need-loop-again Inv-loop μ-loop
 loop-again c =
     let l = c .before .before .before in
     let s = now (l .before .before .args .s) in
-    let i = l .loop .i in
-    (omega arith,
-    ap₂ (λ (x y : ℕ). x + y) (l .loop .inv .1) (c .wide .ensures) ∙ sym (sum-again i (bytes s)),
-    ap₂ (λ (x y : ℕ). x + y * (i + 1)) (l .loop .inv .2) (c .wide .ensures) ∙ sym (sum-again i (weights s)),
-    omega (arith, byte c),
-    omega (arith, weight c))
+    let i = l .loop .i in (
+      omega arith,
+      ap₂ (λ (x y : ℕ). x + y) (l .loop .inv .1) (c .wide .ensures) ∙ sym (sum-again i (bytes s)),
+      ap₂ (λ (x y : ℕ). x + y * (i + 1)) (l .loop .inv .2) (c .wide .ensures) ∙ sym (sum-again i (weights s)),
+      omega (arith, byte c),
+      omega (arith, weight c),
+    )
 
 cast-t14 : tie.Need-cast-t14 Inv-loop μ-loop
 cast-t14 c = omega arith
