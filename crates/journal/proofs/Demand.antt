@@ -226,7 +226,7 @@ turn-sound b c call (begins none h l n ps k) = h
 turn-sound b c call (goes-on l k g) = g .sound
 
 -- every call leaves a sound book
-after-sound : (b : Book) (call : Call) → Sound b → Sound (after b call)
+pub after-sound : (b : Book) (call : Call) → Sound b → Sound (after b call)
 after-sound b call h = go (answerTo b call) refl
   where
     go : (a : Answer Book) → answerTo b call ≡ a → Sound (valueOr b a)

@@ -1,2 +1,3 @@
-// Journals: blocks of 512 bytes on a book.
+// Journals: blocks of 512 bytes on a book, and the text of the return.
 pub mod block;
+pub mod reading;
