@@ -1,11 +1,19 @@
 // Reading a journal: a state by value that is fed one part of the input at a time.
 ghost use mathlib.Core.Path.{_≡_};
+ghost use Prim.Native.Nat.{_≤_};
+ghost use lib.ListN.{length};
 ghost use Rattle.book.specs.Site.{Sound};
-ghost use Rattle.journal.specs.Reading.{started, fed};
+ghost use Rattle.journal.specs.Reading.{started, fed, returnText, textOf};
+ghost use Rattle.journal.specs.Writing.{Puts, Tries};
+use crate::block;
+use crate::text;
+use crate::text::Written;
 use amounts::decline::Decline;
 use book::answer::Verdict;
+use book::report;
+use book::report::Reported;
+use book::site;
 use book::site::Book;
-use crate::block;
 
 pub enum Stopped {
     No,
@@ -22,7 +30,7 @@ pub fn start() -> Reading
     ensures { λ r. ⌜ Sound (r .book) ⌝ }
 {
     Reading {
-        book: book::site::fresh(),
+        book: site::fresh(),
         stopped: Stopped::No,
     }
 }
@@ -50,5 +58,45 @@ pub fn feed(r: Reading, part: &[u8]) -> Reading
             book: next,
             stopped: Stopped::By(d),
         },
+    }
+}
+
+// How many bytes are free where a text is printed: the title and eight lines are no longer.
+const PRINT_ROOM: usize = 1336;
+
+// The title and the line of each substance, from the start of a buffer on.
+fn put_return(out: &mut [u8], b: Book) -> usize
+    requires { ⌜ Sound b ⌝ }
+    requires { ⌜ 1336 ≤ length (now out) ⌝ }
+    ensures { λ n. ⌜ Puts (now (out .entry)) 0 (returnText b) (now (out .exit)) n ⌝ }
+{
+    let mut at = text::title_at(out, 0);
+    let mut i: usize = 0;
+    while i < 8 {
+        let Reported::Known(report) = report::report_of(b, i) else {
+            return at;
+        };
+        at = text::line_at(out, at, report);
+        i += 1;
+    }
+    at
+}
+
+// What there is to print after the parts that were fed, at the start of a lent buffer where 1,336 bytes are free.
+pub fn print(r: Reading, out: &mut [u8]) -> Written
+    requires { ⌜ Sound (r .book) ⌝ }
+    ensures { λ w. ⌜ Tries 1336 (now (out .entry)) 0 (textOf r) (now (out .exit)) w ⌝ }
+{
+    if out.len() < PRINT_ROOM {
+        return Written::NoRoom;
+    }
+    let b = r.book;
+    let stopped = r.stopped;
+    match stopped {
+        Stopped::No => Written::At(put_return(out, b)),
+        Stopped::By(d) => {
+            let place = site::block_number(b);
+            Written::At(text::refused_at(out, 0, place as u64, d.number))
+        }
     }
 }

@@ -1,40 +1,30 @@
-use Rattle.journal.proofs.reading.Laws.{stays, took, stopped-by}
-use denote.Ref.{now}
 use borrow.Author.Needs.{needs}
+use denote.Ref.{now}
+use Rattle.journal.proofs.reading.Laws.{stays, took, stopped-by}
 use Rattle.journal.proofs.reading.feed.Statement.{statement}
 use Rattle.journal.proofs.reading.feed.Tie as tie
-use Rattle.journal.proofs.reading.feed.Reads as reads
-use Rattle.journal.proofs.reading.feed.Lts as lts
-use Rattle.journal.proofs.block.take_block.Reads as take-block-reads
 
--- src/reading.rt:38:9
 enum-told : tie.Need-enum-told
 enum-told c = search needs
 
--- src/reading.rt:38:9
 returns : tie.Need-returns
 returns c = let s = c .before .before .before in (stays (s .args .r) (now (s .args .part)) (c .enum-told .given .0 .0) (c .enum-told .given .1), s .pre)
 
 enum-told-2 : tie.Need-enum-told-2
 enum-told-2 c = search needs
 
--- src/reading.rt:41:9
 take-block-requires : tie.Need-take-block-requires
 take-block-requires c κs = search needs
 
--- src/reading.rt:47:22
 enum-told-3 : tie.Need-enum-told-3
 enum-told-3 c = search needs
 
--- src/reading.rt:49:27
 enum-known-v : tie.Need-enum-known-v
 enum-known-v c = search needs
 
--- src/reading.rt:31:1
 returns-2 : tie.Need-returns-2
 returns-2 c = let s = c .before .before .before .before .before .before .before .before in let k = c .before .before .before in (took (s .args .r) (now (s .args .part)) (k .take-block .result) (c .before .before .before .before .before .enum-told2 .given .1) (k .take-block .ensures .0) (c .enum-told3 .given .1), k .take-block .ensures .1)
 
--- src/reading.rt:31:1
 returns-3 : tie.Need-returns-3
 returns-3 c = let s = c .before .before .before .before .before .before .before .before .before in let k = c .before .before .before .before in (stopped-by (s .args .r) (now (s .args .part)) (k .take-block .result) (c .before .before .before .before .before .before .enum-told2 .given .1) (k .take-block .ensures .0) (c .before .v .given .0 .0) (c .before .v .given .1), k .take-block .ensures .1)
 
