@@ -1,0 +1,98 @@
+// The library's calls, each with its line. Quiet ones print nothing.
+ghost use Rattle.book.specs.Site.{Sound};
+use crate::line;
+use crate::posts;
+use book::post::Post;
+use book::posting;
+use book::report;
+use book::setup;
+use book::site::Book;
+use book::stage;
+
+pub(crate) fn post(b: Book, p: Post) -> Book
+    requires { ⌜ Sound b ⌝ }
+    ensures { λ r. ⌜ Sound r ⌝ }
+{
+    line::post(p);
+    let bytes = posts::encode(p);
+    let answered = posting::take_post(b, &bytes);
+    let verdict = answered.verdict;
+    line::verdict(verdict);
+    answered.book
+}
+
+pub(crate) fn quiet_post(b: Book, p: Post) -> Book
+    requires { ⌜ Sound b ⌝ }
+    ensures { λ r. ⌜ Sound r ⌝ }
+{
+    let bytes = posts::encode(p);
+    let answered = posting::take_post(b, &bytes);
+    answered.book
+}
+
+// A post of any bytes, named by how many they are.
+pub(crate) fn bytes(b: Book, s: &[u8]) -> Book
+    requires { ⌜ Sound b ⌝ }
+    ensures { λ r. ⌜ Sound r ⌝ }
+{
+    line::text(b"bytes");
+    line::number(s.len() as u64);
+    let answered = posting::take_post(b, s);
+    let verdict = answered.verdict;
+    line::verdict(verdict);
+    answered.book
+}
+
+pub(crate) fn set_up(b: Book, count: u8, body: &[u8]) -> Book
+    requires { ⌜ Sound b ⌝ }
+    ensures { λ r. ⌜ Sound r ⌝ }
+{
+    line::text(b"set-up");
+    line::number(count as u64);
+    let answered = setup::set_up(b, count, body);
+    let verdict = answered.verdict;
+    line::verdict(verdict);
+    answered.book
+}
+
+pub(crate) fn quiet_set_up(b: Book, count: u8, body: &[u8]) -> Book
+    requires { ⌜ Sound b ⌝ }
+    ensures { λ r. ⌜ Sound r ⌝ }
+{
+    let answered = setup::set_up(b, count, body);
+    answered.book
+}
+
+pub(crate) fn describe(b: Book, place: u8, body: &[u8]) -> Book
+    requires { ⌜ Sound b ⌝ }
+    ensures { λ r. ⌜ Sound r ⌝ }
+{
+    line::text(b"stage");
+    line::number(place as u64);
+    let answered = stage::describe(b, place, body);
+    let verdict = answered.verdict;
+    line::verdict(verdict);
+    answered.book
+}
+
+pub(crate) fn quiet_describe(b: Book, place: u8, body: &[u8]) -> Book
+    requires { ⌜ Sound b ⌝ }
+    ensures { λ r. ⌜ Sound r ⌝ }
+{
+    let answered = stage::describe(b, place, body);
+    answered.book
+}
+
+pub(crate) fn report(b: Book, place: usize)
+    requires { ⌜ Sound b ⌝ }
+{
+    line::report(place, report::report_of(b, place));
+}
+
+// Two substances.
+pub(crate) fn reports(b: Book)
+    requires { ⌜ Sound b ⌝ }
+{
+    report(b, 0);
+    report(b, 1);
+}
