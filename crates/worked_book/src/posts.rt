@@ -110,3 +110,23 @@ pub(crate) fn with_floats(given: Post, w: u64, u: u64, p: u64, q: u64) -> Post {
 pub(crate) fn close() -> Post {
     of_kind(13)
 }
+
+// A post of each kind that the book of `sites` takes.
+pub(crate) fn good(kind: u8) -> Post {
+    if kind <= 2 {
+        return received(kind, 0, 1);
+    }
+    if kind == 3 {
+        return issued(0, 0, 1);
+    }
+    if kind == 4 {
+        return formed(0, 0, 1);
+    }
+    if kind <= 11 {
+        return moved(kind, 0, 0, 1, 1);
+    }
+    if kind == 12 {
+        return vapour(3, 0, 0);
+    }
+    close()
+}
