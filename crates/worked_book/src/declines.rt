@@ -14,7 +14,7 @@ fn tried_early(b: Book)
     desk::reports(b);
     let b = desk::post(b, posts::received(1, 0, 1));
     let b = desk::post(b, posts::close());
-    let b = desk::bytes(b, &[]);
+    let b = desk::bytes(b, &[0; 0]);
     desk::reports(b);
 }
 
@@ -35,7 +35,7 @@ fn closed() {
     desk::reports(b);
     let b = desk::post(b, posts::received(1, 0, 1));
     let b = desk::post(b, posts::close());
-    let b = desk::bytes(b, &[]);
+    let b = desk::bytes(b, &[0; 0]);
     let b = desk::bytes(b, &[255; 48]);
     desk::reports(b);
 }

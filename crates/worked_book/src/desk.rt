@@ -43,7 +43,15 @@ pub(crate) fn bytes(b: Book, s: &[u8]) -> Book
     answered.book
 }
 
-pub(crate) fn set_up(b: Book, count: u8, body: &[u8]) -> Book
+pub(crate) fn set_up(b: Book, count: u8, body: &[u8; 500]) -> Book
+    requires { ⌜ Sound b ⌝ }
+    ensures { λ r. ⌜ Sound r ⌝ }
+{
+    set_up_of(b, count, body)
+}
+
+// A body of any length.
+pub(crate) fn set_up_of(b: Book, count: u8, body: &[u8]) -> Book
     requires { ⌜ Sound b ⌝ }
     ensures { λ r. ⌜ Sound r ⌝ }
 {
@@ -55,7 +63,7 @@ pub(crate) fn set_up(b: Book, count: u8, body: &[u8]) -> Book
     answered.book
 }
 
-pub(crate) fn quiet_set_up(b: Book, count: u8, body: &[u8]) -> Book
+pub(crate) fn quiet_set_up(b: Book, count: u8, body: &[u8; 500]) -> Book
     requires { ⌜ Sound b ⌝ }
     ensures { λ r. ⌜ Sound r ⌝ }
 {
@@ -63,7 +71,15 @@ pub(crate) fn quiet_set_up(b: Book, count: u8, body: &[u8]) -> Book
     answered.book
 }
 
-pub(crate) fn describe(b: Book, place: u8, body: &[u8]) -> Book
+pub(crate) fn describe(b: Book, place: u8, body: &[u8; 500]) -> Book
+    requires { ⌜ Sound b ⌝ }
+    ensures { λ r. ⌜ Sound r ⌝ }
+{
+    describe_of(b, place, body)
+}
+
+// A body of any length.
+pub(crate) fn describe_of(b: Book, place: u8, body: &[u8]) -> Book
     requires { ⌜ Sound b ⌝ }
     ensures { λ r. ⌜ Sound r ⌝ }
 {
@@ -75,7 +91,7 @@ pub(crate) fn describe(b: Book, place: u8, body: &[u8]) -> Book
     answered.book
 }
 
-pub(crate) fn quiet_describe(b: Book, place: u8, body: &[u8]) -> Book
+pub(crate) fn quiet_describe(b: Book, place: u8, body: &[u8; 500]) -> Book
     requires { ⌜ Sound b ⌝ }
     ensures { λ r. ⌜ Sound r ⌝ }
 {

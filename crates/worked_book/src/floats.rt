@@ -3,8 +3,9 @@ ghost use Rattle.book.specs.Site.{Sound};
 use crate::desk;
 use crate::line;
 use crate::posts;
+use crate::posts::Field;
 use crate::sites;
-use book::post::Post;
+use crate::trials;
 use book::site::Book;
 
 const MINUS_ZERO: u64 = 0x8000000000000000;
@@ -26,84 +27,25 @@ const INFINITY: u64 = 0x7ff0000000000000;
 
 const NAN: u64 = 0x7ff8000000000000;
 
-// A good post of a kind, with each float in turn.
-fn each_float(b: Book, p: Post, bits: u64) -> Book
-    requires { ⌜ Sound b ⌝ }
-    ensures { λ r. ⌜ Sound r ⌝ }
-{
-    let b = desk::post(b, posts::with_floats(p, bits, 0, 0, 0));
-    let b = desk::post(b, posts::with_floats(p, 0, bits, 0, 0));
-    let b = desk::post(b, posts::with_floats(p, 0, 0, bits, 0));
-    desk::post(b, posts::with_floats(p, 0, 0, 0, bits))
-}
-
-fn unused(b: Book, kind: u8) -> Book
-    requires { ⌜ Sound b ⌝ }
-    ensures { λ r. ⌜ Sound r ⌝ }
-{
-    each_float(b, posts::good(kind), LEAST)
-}
-
 // A float that the kind does not use is not zero.
 fn unused_floats() {
     line::text(b"unused floats\n");
     let b = sites::standing();
     desk::reports(b);
-    let b = unused(b, 1);
-    let b = unused(b, 2);
-    let b = unused(b, 3);
-    let b = unused(b, 4);
-    let b = unused(b, 5);
-    let b = unused(b, 6);
-    let b = unused(b, 7);
-    let b = unused(b, 8);
-    let b = unused(b, 9);
-    let b = unused(b, 10);
-    let b = unused(b, 11);
-    let b = unused(b, 13);
+    let b = trials::others(b, Field::W, LEAST);
+    let b = trials::others(b, Field::U, BELOW_ZERO);
+    let b = trials::others(b, Field::P, NAN);
+    let b = trials::others(b, Field::Q, INFINITY);
     desk::reports(b);
-}
-
-fn unused_and_not_finite() {
-    line::text(b"unused floats that are not finite or below zero\n");
-    let b = sites::standing();
-    desk::reports(b);
-    let b = each_float(b, posts::good(1), NAN);
-    let b = each_float(b, posts::good(5), INFINITY);
-    let b = each_float(b, posts::close(), BELOW_ZERO);
-    desk::reports(b);
-}
-
-fn minus_zeros(b: Book, kind: u8) -> Book
-    requires { ⌜ Sound b ⌝ }
-    ensures { λ r. ⌜ Sound r ⌝ }
-{
-    let p = posts::with_floats(
-        posts::good(kind),
-        MINUS_ZERO,
-        MINUS_ZERO,
-        MINUS_ZERO,
-        MINUS_ZERO,
-    );
-    desk::post(b, p)
 }
 
 // Either sign of zero is zero.
-fn unused_minus_zeros() {
+fn minus_zeros() {
     line::text(b"minus zeros\n");
-    let b = minus_zeros(sites::standing(), 1);
-    let b = minus_zeros(b, 2);
-    let b = minus_zeros(b, 3);
-    let b = minus_zeros(b, 4);
-    let b = minus_zeros(b, 5);
-    let b = minus_zeros(b, 6);
-    let b = minus_zeros(b, 7);
-    let b = minus_zeros(b, 8);
-    let b = minus_zeros(b, 9);
-    let b = minus_zeros(b, 10);
-    let b = minus_zeros(b, 11);
-    let b = minus_zeros(b, 12);
-    let b = minus_zeros(b, 13);
+    let b = sites::standing();
+    let b = trials::kinds(b, 1, 12, Field::W, MINUS_ZERO);
+    let b = trials::kinds(b, 1, 13, Field::Q, MINUS_ZERO);
+    let b = trials::one(b, 13, Field::P, MINUS_ZERO);
     desk::reports(b);
 }
 
@@ -163,8 +105,7 @@ fn station() {
 
 pub(crate) fn show_all() {
     unused_floats();
-    unused_and_not_finite();
-    unused_minus_zeros();
+    minus_zeros();
     floating_roof();
     fixed_roof();
     station();

@@ -12,6 +12,7 @@ mod setups;
 mod sites;
 mod slips;
 mod stages;
+mod trials;
 mod xylene;
 mod year;
 

@@ -130,3 +130,39 @@ pub(crate) fn good(kind: u8) -> Post {
     }
     close()
 }
+
+// A field, or none.
+pub(crate) enum Field {
+    None,
+    Material,
+    Stage,
+    Substance,
+    Content,
+    Quantity,
+    W,
+    U,
+    P,
+    Q,
+}
+
+fn byte(x: u64) -> u8 {
+    (x % 256) as u8
+}
+
+// A post with another number in a field.
+pub(crate) fn changed(given: Post, field: Field, x: u64) -> Post {
+    let mut p = given;
+    match field {
+        Field::None => {}
+        Field::Material => p.material = byte(x),
+        Field::Stage => p.stage = byte(x),
+        Field::Substance => p.substance = byte(x),
+        Field::Content => p.content = low(x),
+        Field::Quantity => p.quantity = x,
+        Field::W => p.w = x,
+        Field::U => p.u = x,
+        Field::P => p.p = x,
+        Field::Q => p.q = x,
+    }
+    p
+}

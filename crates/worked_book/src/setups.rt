@@ -1,5 +1,4 @@
 // Kind 1: a body that is taken, and each rule of its layout broken alone.
-ghost use Prim.Native.Nat.{_<_};
 use crate::bodies;
 use crate::desk;
 use crate::line;
@@ -7,11 +6,11 @@ use crate::sites;
 use book::site;
 
 // The good body with one byte changed.
-fn changed(count: u8, at: usize, value: u8)
-    requires { ⌜ at < 500 ⌝ }
-{
+fn changed(count: u8, at: usize, value: u8) {
     let mut body = sites::materials();
-    body[at] = value;
+    if at < 500 {
+        body[at] = value;
+    }
     line::text(b"byte");
     line::number(at as u64);
     line::number(value as u64);
@@ -109,23 +108,27 @@ fn contents() {
 
 fn lengths() {
     let body = sites::materials();
-    let b = desk::set_up(site::fresh(), 2, &body[0..499]);
-    let b = desk::set_up(b, 2, &[]);
-    let b = desk::set_up(b, 2, &[0; 501]);
+    let b = desk::set_up_of(site::fresh(), 2, &body[0..499]);
+    let b = desk::set_up_of(b, 2, &[0; 0]);
+    let b = desk::set_up_of(b, 2, &[0; 501]);
     desk::reports(b);
 }
 
 // 4: once set up, whatever the body.
 fn turns() {
     let body = sites::materials();
-    let b = desk::set_up(site::fresh(), 2, &body);
+    let b = sites::set_up();
     desk::reports(b);
     let b = desk::set_up(b, 2, &body);
-    let b = desk::set_up(b, 9, &[]);
+    let b = desk::set_up_of(b, 9, &[0; 0]);
     desk::reports(b);
-    line::text(b"described\n");
+}
+
+fn late_turns() {
+    let body = sites::materials();
+    line::text(b"described ");
     desk::set_up(sites::described(), 2, &body);
-    line::text(b"closed\n");
+    line::text(b"closed ");
     let b = desk::set_up(sites::closed(), 2, &body);
     desk::reports(b);
 }
@@ -138,4 +141,5 @@ pub(crate) fn show_all() {
     contents();
     lengths();
     turns();
+    late_turns();
 }

@@ -7,13 +7,14 @@ use crate::line;
 use crate::posts;
 use crate::sites;
 use book::site;
+use book::site::Book;
 
 // The good body with one byte changed.
-fn changed(at: usize, value: u8)
-    requires { ⌜ at < 500 ⌝ }
-{
+fn changed(at: usize, value: u8) {
     let mut body = sites::stage();
-    body[at] = value;
+    if at < 500 {
+        body[at] = value;
+    }
     line::text(b"byte");
     line::number(at as u64);
     line::number(value as u64);
@@ -76,28 +77,34 @@ fn unused() {
 
 fn lengths() {
     let body = sites::stage();
-    let b = desk::describe(sites::set_up(), 0, &body[0..499]);
-    let b = desk::describe(b, 0, &[]);
-    desk::describe(b, 0, &[1; 501]);
+    let b = desk::describe_of(sites::set_up(), 0, &body[0..499]);
+    let b = desk::describe_of(b, 0, &[0; 0]);
+    desk::describe_of(b, 0, &[1; 501]);
 }
 
-// 4: before the set-up, or another stage than the next, whatever the body.
+// 4: before the set-up, or another stage than the next, whatever the body; and a post before the last.
 fn turns() {
     let body = sites::stage();
     desk::describe(site::fresh(), 0, &body);
     let b = desk::describe(sites::set_up(), 1, &body);
-    let b = desk::describe(b, 255, &[]);
     let b = desk::describe(b, 0, &body);
     let b = desk::describe(b, 0, &body);
     let b = desk::describe(b, 2, &body);
-    let b = desk::post(b, posts::received(1, 0, 1));
+    let b = desk::post(b, posts::good(1));
     desk::reports(b);
     let b = desk::describe(b, 1, &body);
+    last_turns(b);
+}
+
+fn last_turns(b: Book)
+    requires { ⌜ Sound b ⌝ }
+{
+    let body = sites::stage();
     let b = desk::describe(b, 1, &body);
-    let b = desk::describe(b, 2, &[]);
-    let b = desk::post(b, posts::received(1, 0, 1));
+    let b = desk::describe_of(b, 2, &[0; 0]);
+    let b = desk::post(b, posts::good(1));
     desk::reports(b);
-    line::text(b"closed\n");
+    line::text(b"closed ");
     desk::describe(sites::closed(), 2, &body);
 }
 
