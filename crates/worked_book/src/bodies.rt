@@ -1,7 +1,7 @@
 // The bodies of set-up blocks.
 ghost use Prim.Native.Nat.{_+_, _≤_, _<_};
 
-pub(crate) fn put16(body: &mut [u8; 500], at: usize, x: u16)
+fn put16(body: &mut [u8; 500], at: usize, x: u16)
     requires { ⌜ at + 2 ≤ 500 ⌝ }
 {
     body[at] = (x % 256) as u8;
@@ -17,14 +17,15 @@ pub(crate) fn put32(body: &mut [u8; 500], at: usize, x: u32)
     body[at + 3] = (x / 16777216) as u8;
 }
 
-// Kind 1.
-pub(crate) fn site(materials: u8, stages: u8) -> [u8; 500] {
+// The first two bytes: of kind 1 the counts of materials and stages, of kind 2 where water and residues go.
+pub(crate) fn begun(first: u8, second: u8) -> [u8; 500] {
     let mut body = [0u8; 500];
-    body[0] = materials;
-    body[1] = stages;
+    body[0] = first;
+    body[1] = second;
     body
 }
 
+// Kind 1.
 pub(crate) fn substance(given: [u8; 500], place: usize, number: u16, class: u8) -> [u8; 500]
     requires { ⌜ place < 8 ⌝ }
 {
@@ -42,41 +43,24 @@ pub(crate) fn content(given: [u8; 500], material: usize, place: usize, ppm: u32)
     body
 }
 
-// Kind 2.
-pub(crate) fn stage(water: u8, residue: u8) -> [u8; 500] {
-    let mut body = [0u8; 500];
-    body[0] = water;
-    body[1] = residue;
-    body
-}
-
-// Which of a substance's rates: 0 gas removal, 1 gas destruction, 2 water removal, 3 water destruction.
-pub(crate) fn rate(given: [u8; 500], place: usize, which: usize, ppm: u32) -> [u8; 500]
-    requires { ⌜ (place < 8) × (which < 4) ⌝ }
-{
-    let mut body = given;
-    put32(&mut body, 3 + place * 17 + which * 4, ppm);
-    body
-}
-
-pub(crate) fn side(given: [u8; 500], place: usize, side: u8) -> [u8; 500]
+// Kind 2: a substance's side, and the removal and destruction of its gas and of its water.
+pub(crate) fn treated(
+    given: [u8; 500],
+    place: usize,
+    side: u8,
+    gas: u32,
+    gas_destroyed: u32,
+    water: u32,
+    water_destroyed: u32,
+) -> [u8; 500]
     requires { ⌜ place < 8 ⌝ }
 {
     let mut body = given;
-    body[2 + place * 17] = side;
+    let at = 2 + place * 17;
+    body[at] = side;
+    put32(&mut body, at + 1, gas);
+    put32(&mut body, at + 5, gas_destroyed);
+    put32(&mut body, at + 9, water);
+    put32(&mut body, at + 13, water_destroyed);
     body
-}
-
-pub(crate) fn gas(given: [u8; 500], place: usize, removal: u32, destruction: u32) -> [u8; 500]
-    requires { ⌜ place < 8 ⌝ }
-{
-    let body = rate(given, place, 0, removal);
-    rate(body, place, 1, destruction)
-}
-
-pub(crate) fn water(given: [u8; 500], place: usize, removal: u32, destruction: u32) -> [u8; 500]
-    requires { ⌜ place < 8 ⌝ }
-{
-    let body = rate(given, place, 2, removal);
-    rate(body, place, 3, destruction)
 }

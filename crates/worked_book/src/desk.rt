@@ -1,4 +1,4 @@
-// The library's calls, each with its line. Quiet ones print nothing.
+// The library's calls, each with its line.
 ghost use Rattle.book.specs.Site.{Sound};
 use crate::line;
 use crate::posts;
@@ -9,7 +9,7 @@ use book::setup;
 use book::site::Book;
 use book::stage;
 
-pub(crate) fn post(b: Book, p: Post) -> Book
+pub(crate) fn give(b: Book, p: Post) -> Book
     requires { ⌜ Sound b ⌝ }
     ensures { λ r. ⌜ Sound r ⌝ }
 {
@@ -21,13 +21,30 @@ pub(crate) fn post(b: Book, p: Post) -> Book
     answered.book
 }
 
-pub(crate) fn quiet_post(b: Book, p: Post) -> Book
+// Kind, material, stage, substance, content and quantity.
+pub(crate) fn post(b: Book, k: u8, m: u8, t: u8, s: u8, content: u32, quantity: u64) -> Book
     requires { ⌜ Sound b ⌝ }
     ensures { λ r. ⌜ Sound r ⌝ }
 {
-    let bytes = posts::encode(p);
-    let answered = posting::take_post(b, &bytes);
-    answered.book
+    give(b, posts::of(k, m, t, s, content, quantity))
+}
+
+// Form, stage, substance and floats.
+pub(crate) fn vapour(b: Book, form: u8, t: u8, s: u8, w: u64, u: u64, p: u64, q: u64) -> Book
+    requires { ⌜ Sound b ⌝ }
+    ensures { λ r. ⌜ Sound r ⌝ }
+{
+    give(
+        b,
+        posts::with_floats(posts::of(12, form, t, s, 0, 0), w, u, p, q),
+    )
+}
+
+pub(crate) fn close(b: Book) -> Book
+    requires { ⌜ Sound b ⌝ }
+    ensures { λ r. ⌜ Sound r ⌝ }
+{
+    post(b, 13, 0, 0, 0, 0, 0)
 }
 
 // A post of any bytes, named by how many they are.
@@ -63,14 +80,6 @@ pub(crate) fn set_up_of(b: Book, count: u8, body: &[u8]) -> Book
     answered.book
 }
 
-pub(crate) fn quiet_set_up(b: Book, count: u8, body: &[u8; 500]) -> Book
-    requires { ⌜ Sound b ⌝ }
-    ensures { λ r. ⌜ Sound r ⌝ }
-{
-    let answered = setup::set_up(b, count, body);
-    answered.book
-}
-
 pub(crate) fn describe(b: Book, place: u8, body: &[u8; 500]) -> Book
     requires { ⌜ Sound b ⌝ }
     ensures { λ r. ⌜ Sound r ⌝ }
@@ -88,14 +97,6 @@ pub(crate) fn describe_of(b: Book, place: u8, body: &[u8]) -> Book
     let answered = stage::describe(b, place, body);
     let verdict = answered.verdict;
     line::verdict(verdict);
-    answered.book
-}
-
-pub(crate) fn quiet_describe(b: Book, place: u8, body: &[u8; 500]) -> Book
-    requires { ⌜ Sound b ⌝ }
-    ensures { λ r. ⌜ Sound r ⌝ }
-{
-    let answered = stage::describe(b, place, body);
     answered.book
 }
 

@@ -1,12 +1,9 @@
 // Decline 7: floats that are not finite, or outside the ranges of their kind and form.
-ghost use Rattle.book.specs.Site.{Sound};
 use crate::desk;
 use crate::line;
-use crate::posts;
 use crate::posts::Field;
 use crate::sites;
 use crate::trials;
-use book::site::Book;
 
 const MINUS_ZERO: u64 = 0x8000000000000000;
 
@@ -27,8 +24,8 @@ const INFINITY: u64 = 0x7ff0000000000000;
 
 const NAN: u64 = 0x7ff8000000000000;
 
-// A float that the kind does not use is not zero.
-fn unused_floats() {
+// A float that the kind does not use is zero, of either sign.
+pub(crate) fn unused() {
     line::text(b"unused floats\n");
     let b = sites::standing();
     desk::reports(b);
@@ -37,76 +34,47 @@ fn unused_floats() {
     let b = trials::others(b, Field::P, NAN);
     let b = trials::others(b, Field::Q, INFINITY);
     desk::reports(b);
-}
-
-// Either sign of zero is zero.
-fn minus_zeros() {
     line::text(b"minus zeros\n");
-    let b = sites::standing();
     let b = trials::kinds(b, 1, 12, Field::W, MINUS_ZERO);
     let b = trials::kinds(b, 1, 13, Field::Q, MINUS_ZERO);
     let b = trials::one(b, 13, Field::P, MINUS_ZERO);
     desk::reports(b);
 }
 
-fn vapour(b: Book, form: u8, w: u64, u: u64, p: u64, q: u64) -> Book
-    requires { ⌜ Sound b ⌝ }
-    ensures { λ r. ⌜ Sound r ⌝ }
-{
-    desk::post(b, posts::with_floats(posts::vapour(form, 0, 0), w, u, p, q))
-}
-
-fn floating_roof() {
+pub(crate) fn first_form() {
     line::text(b"form 1\n");
     let b = sites::standing();
     desk::reports(b);
-    let b = vapour(b, 1, BELOW_ONE, ONE, ONE, 0);
-    let b = vapour(b, 1, 0x408f400000000001, ONE, ONE, 0);
-    let b = vapour(b, 1, ONE, BELOW_ZERO, ONE, 0);
-    let b = vapour(b, 1, ONE, 0x4059000000000001, ONE, 0);
-    let b = vapour(b, 1, ONE, ONE, ABOVE_BILLION, 0);
-    let b = vapour(b, 1, ONE, ONE, ONE, LEAST);
-    let b = vapour(b, 1, NAN, ONE, ONE, 0);
-    let b = vapour(b, 1, ONE, ONE, ONE, NAN);
+    let b = desk::vapour(b, 1, 0, 0, BELOW_ONE, ONE, ONE, 0);
+    let b = desk::vapour(b, 1, 0, 0, 0x408f400000000001, ONE, ONE, 0);
+    let b = desk::vapour(b, 1, 0, 0, ONE, BELOW_ZERO, ONE, 0);
+    let b = desk::vapour(b, 1, 0, 0, ONE, 0x4059000000000001, ONE, 0);
+    let b = desk::vapour(b, 1, 0, 0, ONE, ONE, ABOVE_BILLION, 0);
+    let b = desk::vapour(b, 1, 0, 0, ONE, ONE, ONE, LEAST);
+    let b = desk::vapour(b, 1, 0, 0, NAN, ONE, ONE, 0);
+    let b = desk::vapour(b, 1, 0, 0, ONE, ONE, ONE, NAN);
     desk::reports(b);
-    let b = vapour(b, 1, ONE, ONE, ONE, MINUS_ZERO);
+    let b = desk::vapour(b, 1, 0, 0, ONE, ONE, ONE, MINUS_ZERO);
     desk::reports(b);
 }
 
-fn fixed_roof() {
-    line::text(b"form 2\n");
+pub(crate) fn other_forms() {
+    line::text(b"forms 2 and 3\n");
     let b = sites::standing();
     desk::reports(b);
-    let b = vapour(b, 2, ABOVE_BILLION, ONE, ONE, ONE);
-    let b = vapour(b, 2, ONE, BELOW_ZERO, ONE, ONE);
-    let b = vapour(b, 2, ONE, ONE, BELOW_ONE, ONE);
-    let b = vapour(b, 2, ONE, ONE, MINUS_ZERO, ONE);
-    let b = vapour(b, 2, ONE, ONE, ONE, ABOVE_ONE);
-    let b = vapour(b, 2, ONE, INFINITY, ONE, ONE);
+    let b = desk::vapour(b, 2, 0, 0, ABOVE_BILLION, ONE, ONE, ONE);
+    let b = desk::vapour(b, 2, 0, 0, ONE, BELOW_ZERO, ONE, ONE);
+    let b = desk::vapour(b, 2, 0, 0, ONE, ONE, BELOW_ONE, ONE);
+    let b = desk::vapour(b, 2, 0, 0, ONE, ONE, MINUS_ZERO, ONE);
+    let b = desk::vapour(b, 2, 0, 0, ONE, ONE, ONE, ABOVE_ONE);
+    let b = desk::vapour(b, 2, 0, 0, ONE, INFINITY, ONE, ONE);
+    let b = desk::vapour(b, 3, 0, 0, ABOVE_BILLION, 0, 0, 0);
+    let b = desk::vapour(b, 3, 0, 0, 0, BELOW_ZERO, 0, 0);
+    let b = desk::vapour(b, 3, 0, 0, 0, 0, NAN, 0);
+    let b = desk::vapour(b, 3, 0, 0, 0, 0, 0, INFINITY);
     desk::reports(b);
-    // A quarter escapes of what 0.015625 m³ hold.
-    let b = vapour(b, 2, 0x3f90000000000000, ONE, ONE, 0x3fd0000000000000);
+    // A quarter escapes of what 0.015625 m³ hold; 0.1 kg and 10^-9 kg.
+    let b = desk::vapour(b, 2, 0, 0, 0x3f90000000000000, ONE, ONE, 0x3fd0000000000000);
+    let b = desk::vapour(b, 3, 0, 0, ONE, 0x3fb999999999999a, 0x3e112e0be826d695, ONE);
     desk::reports(b);
-}
-
-fn station() {
-    line::text(b"form 3\n");
-    let b = sites::standing();
-    desk::reports(b);
-    let b = vapour(b, 3, ABOVE_BILLION, 0, 0, 0);
-    let b = vapour(b, 3, 0, BELOW_ZERO, 0, 0);
-    let b = vapour(b, 3, 0, 0, NAN, 0);
-    let b = vapour(b, 3, 0, 0, 0, INFINITY);
-    desk::reports(b);
-    // 0.1 kg and 10^-9 kg.
-    let b = vapour(b, 3, ONE, 0x3fb999999999999a, 0x3e112e0be826d695, ONE);
-    desk::reports(b);
-}
-
-pub(crate) fn show_all() {
-    unused_floats();
-    minus_zeros();
-    floating_roof();
-    fixed_roof();
-    station();
 }

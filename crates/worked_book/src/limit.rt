@@ -3,7 +3,9 @@ ghost use Rattle.book.specs.Site.{Sound};
 use crate::desk;
 use crate::line;
 use crate::posts;
+use crate::posts::Field;
 use crate::sites;
+use crate::trials;
 use book::post::Post;
 use book::posting;
 use book::site::Book;
@@ -31,57 +33,31 @@ fn repeated(b: Book, p: Post, times: u32) -> Book
 fn filled() -> Book
     ensures { λ r. ⌜ Sound r ⌝ }
 {
-    let b = repeated(
-        sites::described(),
-        posts::formed(1, 1, 2_000_000_000_000_000),
-        2_000,
-    );
-    let b = repeated(b, posts::formed(0, 0, 2_000_000_000_000_000), 1_998);
-    repeated(b, posts::received(2, 0, 2_000_000_000), 1)
+    let p = posts::of(4, 0, 1, 1, 0, 2_000_000_000_000_000);
+    let b = repeated(sites::described(), p, 2_000);
+    let p = posts::of(4, 0, 0, 0, 0, 2_000_000_000_000_000);
+    let b = repeated(b, p, 1_998);
+    repeated(b, posts::of(2, 0, 0, 0, 0, 2_000_000_000), 1)
 }
 
-// 6, 7, 8 and 9 come before 10, and 10 before 11.
-fn full(b: Book) -> Book
-    requires { ⌜ Sound b ⌝ }
-    ensures { λ r. ⌜ Sound r ⌝ }
-{
-    let b = desk::post(b, posts::received(2, 1, 1));
-    let b = desk::post(b, posts::received(2, 2, 1));
-    let b = desk::post(
-        b,
-        posts::with_floats(posts::received(2, 0, 1), ONE, 0, 0, 0),
-    );
-    let p = posts::with_floats(posts::vapour(1, 0, 1), ONE, 0, 0, 0);
-    let b = desk::post(b, p);
-    let p = posts::with_floats(posts::vapour(3, 0, 0), BILLION, BILLION, 0, 0);
-    let b = desk::post(b, p);
-    let b = desk::post(b, posts::issued(1, 0, 1));
-    let b = desk::post(b, posts::moved(5, 0, 1, 1, 1));
-    // A loss of nothing is a post too.
-    desk::post(b, posts::vapour(3, 0, 0))
-}
-
-// A close with a wrong field, one with a wrong float, and the close.
-fn closed(b: Book) -> Book
-    requires { ⌜ Sound b ⌝ }
-    ensures { λ r. ⌜ Sound r ⌝ }
-{
-    let mut p = posts::close();
-    p.stage = 1;
-    let b = desk::post(b, p);
-    let b = desk::post(b, posts::with_floats(posts::close(), 0, 0, 0, ONE));
-    let b = desk::post(b, posts::close());
-    desk::post(b, posts::close())
-}
-
-pub(crate) fn show_all() {
+// 6, 7, 8 and 9 come before 10, and 10 before 11. A loss of nothing is a post too. A close with a wrong field or float is none.
+pub(crate) fn reached() {
     line::text(b"the limit of posts\n");
     let b = filled();
     desk::reports(b);
-    let b = desk::post(b, posts::received(1, 1, 2_000_000_000));
+    let b = desk::post(b, 1, 1, 0, 0, 0, 2_000_000_000);
     desk::reports(b);
-    let b = full(b);
+    let b = desk::post(b, 2, 1, 0, 0, 0, 1);
+    let b = desk::post(b, 2, 2, 0, 0, 0, 1);
+    let b = trials::one(b, 2, Field::U, ONE);
+    let b = desk::vapour(b, 1, 0, 1, ONE, 0, 0, 0);
+    let b = desk::vapour(b, 3, 0, 0, BILLION, BILLION, 0, 0);
+    let b = desk::post(b, 5, 0, 0, 1, 1, 1);
+    let b = desk::vapour(b, 3, 0, 0, 0, 0, 0, 0);
     desk::reports(b);
-    let b = closed(b);
+    let b = desk::post(b, 13, 0, 1, 0, 0, 0);
+    let b = trials::one(b, 13, Field::Q, ONE);
+    let b = desk::close(b);
+    let b = desk::close(b);
     desk::reports(b);
 }

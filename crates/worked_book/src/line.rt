@@ -4,7 +4,6 @@ use book::answer::Verdict;
 use book::post::Post;
 use book::report::Filing;
 use book::report::Headings;
-use book::report::Line;
 use book::report::Report;
 use book::report::Reported;
 use libc::STDOUT_FILENO;
@@ -37,20 +36,14 @@ pub(crate) fn verdict(v: Verdict) {
     }
 }
 
-fn has_floats(p: Post) -> bool {
-    if p.w != 0 {
-        return true;
-    }
-    if p.u != 0 {
-        return true;
-    }
-    if p.p != 0 {
-        return true;
-    }
-    p.q != 0
+fn floats(p: Post) {
+    pattern(p.w);
+    pattern(p.u);
+    pattern(p.p);
+    pattern(p.q);
 }
 
-// Kind, material, stage, substance, content and quantity, and the floats where one is not zero.
+// Kind, material, stage, substance, content and quantity, and the floats of vapour or where one is not zero.
 pub(crate) fn post(p: Post) {
     text(b"post");
     number(p.kind as u64);
@@ -59,19 +52,10 @@ pub(crate) fn post(p: Post) {
     number(p.substance as u64);
     number(p.content as u64);
     number(p.quantity);
-    if has_floats(p) {
-        pattern(p.w);
-        pattern(p.u);
-        pattern(p.p);
-        pattern(p.q);
-    }
-}
-
-fn due(yes: bool) {
-    if yes {
-        text(b" Y");
-    } else {
-        text(b" N");
+    if p.kind == 12 {
+        floats(p);
+    } else if (p.w | p.u | p.p | p.q) != 0 {
+        floats(p);
     }
 }
 
@@ -82,15 +66,6 @@ fn headings(h: Headings) {
     number(h.land);
     number(h.sewer);
     number(h.offsite);
-}
-
-fn amounts_of(x: Line) {
-    number(x.held);
-    number(x.shipped);
-    number(x.consumed);
-    number(x.destroyed);
-    let h = x.headings;
-    headings(h);
 }
 
 fn filed(f: Filing) {
@@ -105,10 +80,19 @@ fn known(r: Report) {
     number(r.posts as u64);
     number(r.number as u64);
     number(r.handled);
-    due(r.due);
+    if r.due {
+        text(b" Y");
+    } else {
+        text(b" N");
+    }
     number(r.store);
     let x = r.line;
-    amounts_of(x);
+    number(x.held);
+    number(x.shipped);
+    number(x.consumed);
+    number(x.destroyed);
+    let h = x.headings;
+    headings(h);
     let f = r.filed;
     filed(f);
     text(b"\n");

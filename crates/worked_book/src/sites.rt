@@ -1,14 +1,16 @@
 // The book that declines are tried on: 80 in class 1 and 81, which has no coefficient row, in class 2.
 ghost use Rattle.book.specs.Site.{Sound};
 use crate::bodies;
-use crate::desk;
 use crate::posts;
+use book::posting;
+use book::setup;
 use book::site;
 use book::site::Book;
+use book::stage;
 
 // The first material is full, the second holds 81 only.
 pub(crate) fn materials() -> [u8; 500] {
-    let body = bodies::site(2, 2);
+    let body = bodies::begun(2, 2);
     let body = bodies::substance(body, 0, 80, 1);
     let body = bodies::substance(body, 1, 81, 2);
     let body = bodies::content(body, 0, 0, 400_000);
@@ -17,37 +19,48 @@ pub(crate) fn materials() -> [u8; 500] {
 }
 
 pub(crate) fn stage() -> [u8; 500] {
-    let body = bodies::stage(1, 2);
-    let body = bodies::side(body, 0, 1);
-    let body = bodies::gas(body, 0, 500_000, 250_000);
-    let body = bodies::side(body, 1, 2);
-    bodies::water(body, 1, 125_000, 1_000_000)
+    let body = bodies::begun(1, 2);
+    let body = bodies::treated(body, 0, 1, 500_000, 250_000, 0, 0);
+    bodies::treated(body, 1, 2, 0, 0, 125_000, 1_000_000)
 }
 
 pub(crate) fn set_up() -> Book
     ensures { λ r. ⌜ Sound r ⌝ }
 {
-    desk::quiet_set_up(site::fresh(), 2, &materials())
+    let body = materials();
+    let answered = setup::set_up(site::fresh(), 2, &body);
+    answered.book
 }
 
 pub(crate) fn described() -> Book
     ensures { λ r. ⌜ Sound r ⌝ }
 {
-    let b = desk::quiet_describe(set_up(), 0, &stage());
-    desk::quiet_describe(b, 1, &stage())
+    let body = stage();
+    let answered = stage::describe(set_up(), 0, &body);
+    let b = answered.book;
+    let answered = stage::describe(b, 1, &body);
+    answered.book
 }
 
 // 600 g of the first material in store; 160 g of 80 and 500,240 g of 81 held by the first stage.
 pub(crate) fn standing() -> Book
     ensures { λ r. ⌜ Sound r ⌝ }
 {
-    let b = desk::quiet_post(described(), posts::received(1, 0, 1_000));
-    let b = desk::quiet_post(b, posts::issued(0, 0, 400));
-    desk::quiet_post(b, posts::formed(0, 1, 500_000_000_000))
+    let bytes = posts::encode(posts::of(1, 0, 0, 0, 0, 1_000));
+    let answered = posting::take_post(described(), &bytes);
+    let b = answered.book;
+    let bytes = posts::encode(posts::of(3, 0, 0, 0, 0, 400));
+    let answered = posting::take_post(b, &bytes);
+    let b = answered.book;
+    let bytes = posts::encode(posts::of(4, 0, 0, 1, 0, 500_000_000_000));
+    let answered = posting::take_post(b, &bytes);
+    answered.book
 }
 
 pub(crate) fn closed() -> Book
     ensures { λ r. ⌜ Sound r ⌝ }
 {
-    desk::quiet_post(standing(), posts::close())
+    let bytes = posts::encode(posts::good(13));
+    let answered = posting::take_post(standing(), &bytes);
+    answered.book
 }

@@ -9,7 +9,7 @@ pub(crate) fn one(b: Book, kind: u8, field: Field, x: u64) -> Book
     requires { ⌜ Sound b ⌝ }
     ensures { λ r. ⌜ Sound r ⌝ }
 {
-    desk::post(b, posts::changed(posts::good(kind), field, x))
+    desk::give(b, posts::changed(posts::good(kind), field, x))
 }
 
 // The kinds from one up to another, which is not among them.
