@@ -9,13 +9,13 @@ use book::site::Book;
 const ONE: u64 = 0x3ff0000000000000;
 
 // 4: a post, the close or no bytes before the last stage is described.
-fn tried_early(b: Book)
+fn tried_early(mut b: Book)
     requires { ⌜ Sound b ⌝ }
 {
     desk::reports(b);
-    let b = desk::post(b, 1, 0, 0, 0, 0, 1);
-    let b = desk::close(b);
-    let b = desk::bytes(b, &[0; 0]);
+    b = desk::post(b, 1, 0, 0, 0, 0, 1);
+    b = desk::close(b);
+    b = desk::bytes(b, &[0; 0]);
     desk::reports(b);
 }
 
@@ -32,64 +32,64 @@ pub(crate) fn turns() {
 // 5: a good post, a second close, no bytes, and a post that breaks every rule.
 pub(crate) fn closed() {
     line::text(b"a closed book\n");
-    let b = sites::closed();
+    let mut b = sites::closed();
     desk::reports(b);
-    let b = desk::post(b, 1, 0, 0, 0, 0, 1);
-    let b = desk::close(b);
-    let b = desk::bytes(b, &[0; 0]);
-    let b = desk::bytes(b, &[255; 48]);
+    b = desk::post(b, 1, 0, 0, 0, 0, 1);
+    b = desk::close(b);
+    b = desk::bytes(b, &[0; 0]);
+    b = desk::bytes(b, &[255; 48]);
     desk::reports(b);
 }
 
 // 8: forms 1 and 2 of 81, where the loss is 0 too; form 3 needs no row. 9: the floats above 2,000,000 kg, which 2,000,000 kg are not.
 pub(crate) fn losses() {
     line::text(b"no coefficient row\n");
-    let b = desk::post(sites::standing(), 4, 0, 1, 0, 0, 2_000_000_000_000_000);
+    let mut b = desk::post(sites::standing(), 4, 0, 1, 0, 0, 2_000_000_000_000_000);
     desk::reports(b);
-    let b = desk::vapour(b, 1, 0, 1, ONE, 0, 0, 0);
-    let b = desk::vapour(b, 2, 0, 1, 0, 0, ONE, 0);
+    b = desk::vapour(b, 1, 0, 1, ONE, 0, 0, 0);
+    b = desk::vapour(b, 2, 0, 1, 0, 0, ONE, 0);
     desk::reports(b);
-    let b = desk::vapour(b, 3, 0, 1, ONE, ONE, 0, 0);
+    b = desk::vapour(b, 3, 0, 1, ONE, ONE, 0, 0);
     desk::reports(b);
     line::text(b"losses over 2,000,000 kg\n");
-    let b = desk::vapour(b, 3, 1, 0, 0x413e848000000001, ONE, 0, 0);
-    let b = desk::vapour(b, 3, 1, 0, 0x41cdcd6500000000, ONE, ONE, ONE);
+    b = desk::vapour(b, 3, 1, 0, 0x413e848000000001, ONE, 0, 0);
+    b = desk::vapour(b, 3, 1, 0, 0x41cdcd6500000000, ONE, ONE, ONE);
     desk::reports(b);
-    let b = desk::vapour(b, 3, 1, 0, 0x413e848000000000, ONE, 0, 0);
+    b = desk::vapour(b, 3, 1, 0, 0x413e848000000000, ONE, 0, 0);
     desk::reports(b);
 }
 
 // 11: a gram more than the store holds, or a store that holds nothing. All of it may leave.
 pub(crate) fn stores() {
     line::text(b"a store holds less\n");
-    let b = sites::standing();
+    let mut b = sites::standing();
     desk::reports(b);
-    let b = desk::post(b, 3, 0, 0, 0, 0, 601);
-    let b = desk::post(b, 3, 1, 0, 0, 0, 1);
-    let b = desk::post(b, 3, 0, 1, 0, 0, 2_000_000_000);
+    b = desk::post(b, 3, 0, 0, 0, 0, 601);
+    b = desk::post(b, 3, 1, 0, 0, 0, 1);
+    b = desk::post(b, 3, 0, 1, 0, 0, 2_000_000_000);
     desk::reports(b);
-    let b = desk::post(b, 3, 0, 1, 0, 0, 600);
-    let b = desk::post(b, 3, 0, 1, 0, 0, 1);
+    b = desk::post(b, 3, 0, 1, 0, 0, 600);
+    b = desk::post(b, 3, 0, 1, 0, 0, 1);
     desk::reports(b);
 }
 
 // 11: each kind that takes from a holding, of which there are 160 g. All of it may leave.
 pub(crate) fn holdings() {
     line::text(b"a holding is less\n");
-    let b = sites::standing();
+    let mut b = sites::standing();
     desk::reports(b);
-    let b = desk::post(b, 5, 0, 0, 0, 1_000_000, 161);
-    let b = desk::post(b, 6, 0, 0, 0, 160_001, 1_000);
-    let b = desk::post(b, 7, 0, 0, 0, 1, 160_000_001);
-    let b = desk::post(b, 8, 0, 1, 0, 1, 1);
-    let b = desk::post(b, 9, 0, 1, 1, 1_000_000, 2_000_000_000);
-    let b = desk::post(b, 10, 0, 0, 0, 1_000_000, 161);
-    let b = desk::post(b, 11, 0, 0, 1, 1_000_000, 500_241);
+    b = desk::post(b, 5, 0, 0, 0, 1_000_000, 161);
+    b = desk::post(b, 6, 0, 0, 0, 160_001, 1_000);
+    b = desk::post(b, 7, 0, 0, 0, 1, 160_000_001);
+    b = desk::post(b, 8, 0, 1, 0, 1, 1);
+    b = desk::post(b, 9, 0, 1, 1, 1_000_000, 2_000_000_000);
+    b = desk::post(b, 10, 0, 0, 0, 1_000_000, 161);
+    b = desk::post(b, 11, 0, 0, 1, 1_000_000, 500_241);
     // 0.5 kg.
-    let b = desk::vapour(b, 3, 0, 0, ONE, 0x3fe0000000000000, 0, 0);
+    b = desk::vapour(b, 3, 0, 0, ONE, 0x3fe0000000000000, 0, 0);
     desk::reports(b);
-    let b = desk::post(b, 5, 0, 0, 0, 160_000, 1_000);
-    let b = desk::post(b, 5, 0, 0, 0, 1, 1);
+    b = desk::post(b, 5, 0, 0, 0, 160_000, 1_000);
+    b = desk::post(b, 5, 0, 0, 0, 1, 1);
     desk::reports(b);
 }
 

@@ -2,6 +2,7 @@
 ghost use Rattle.book.specs.Site.{Sound};
 use crate::bodies;
 use crate::posts;
+use book::post::Post;
 use book::posting;
 use book::setup;
 use book::site;
@@ -42,25 +43,26 @@ pub(crate) fn described() -> Book
     answered.book
 }
 
+pub(crate) fn took(b: Book, p: Post) -> Book
+    requires { ⌜ Sound b ⌝ }
+    ensures { λ r. ⌜ Sound r ⌝ }
+{
+    let bytes = posts::encode(p);
+    let answered = posting::take_post(b, &bytes);
+    answered.book
+}
+
 // 600 g of the first material in store; 160 g of 80 and 500,240 g of 81 held by the first stage.
 pub(crate) fn standing() -> Book
     ensures { λ r. ⌜ Sound r ⌝ }
 {
-    let bytes = posts::encode(posts::of(1, 0, 0, 0, 0, 1_000));
-    let answered = posting::take_post(described(), &bytes);
-    let b = answered.book;
-    let bytes = posts::encode(posts::of(3, 0, 0, 0, 0, 400));
-    let answered = posting::take_post(b, &bytes);
-    let b = answered.book;
-    let bytes = posts::encode(posts::of(4, 0, 0, 1, 0, 500_000_000_000));
-    let answered = posting::take_post(b, &bytes);
-    answered.book
+    let mut b = took(described(), posts::of(1, 0, 0, 0, 0, 1_000));
+    b = took(b, posts::of(3, 0, 0, 0, 0, 400));
+    took(b, posts::of(4, 0, 0, 1, 0, 500_000_000_000))
 }
 
 pub(crate) fn closed() -> Book
     ensures { λ r. ⌜ Sound r ⌝ }
 {
-    let bytes = posts::encode(posts::good(13));
-    let answered = posting::take_post(standing(), &bytes);
-    answered.book
+    took(standing(), posts::good(13))
 }

@@ -87,16 +87,16 @@ pub(crate) fn rates() {
 pub(crate) fn turns() {
     let body = sites::stage();
     desk::describe(site::fresh(), 0, &body);
-    let b = desk::describe_of(sites::set_up(), 0, &body[0..499]);
-    let b = desk::describe(b, 1, &body);
-    let b = desk::describe(b, 0, &body);
-    let b = desk::describe(b, 0, &body);
-    let b = desk::describe_of(b, 2, &[0; 0]);
-    let b = desk::post(b, 1, 0, 0, 0, 0, 1);
+    let mut b = desk::describe_of(sites::set_up(), 0, &body[0..499]);
+    b = desk::describe(b, 1, &body);
+    b = desk::describe(b, 0, &body);
+    b = desk::describe(b, 0, &body);
+    b = desk::describe_of(b, 2, &[0; 0]);
+    b = desk::post(b, 1, 0, 0, 0, 0, 1);
     desk::reports(b);
-    let b = desk::describe(b, 1, &body);
-    let b = desk::describe(b, 2, &body);
-    let b = desk::post(b, 1, 0, 0, 0, 0, 1);
+    b = desk::describe(b, 1, &body);
+    b = desk::describe(b, 2, &body);
+    b = desk::post(b, 1, 0, 0, 0, 0, 1);
     desk::reports(b);
     line::text(b"closed ");
     desk::describe(sites::closed(), 2, &body);

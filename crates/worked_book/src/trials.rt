@@ -27,10 +27,10 @@ pub(crate) fn kinds(b: Book, from: u8, end: u8, field: Field, x: u64) -> Book
 }
 
 // All kinds but vapour, whose floats are used.
-pub(crate) fn others(b: Book, field: Field, x: u64) -> Book
+pub(crate) fn others(mut b: Book, field: Field, x: u64) -> Book
     requires { ⌜ Sound b ⌝ }
     ensures { λ r. ⌜ Sound r ⌝ }
 {
-    let b = kinds(b, 1, 12, field, x);
+    b = kinds(b, 1, 12, field, x);
     one(b, 13, field, x)
 }

@@ -6,22 +6,16 @@ use Rattle.worked_book.proofs.limit.repeated.Statement.{statement}
 use Rattle.worked_book.proofs.limit.repeated.Tie as tie
 
 abbrev Inv-loop : tie.InvT-loop
-Inv-loop times bytes c₀ i₀ c i = (i ≤ times) × Sound c
+Inv-loop p times c₀ i₀ c i = (i ≤ times) × Sound c
 
 abbrev μ-loop : tie.MeasureT-loop
-μ-loop times bytes c₀ i₀ c i = times - i
-
-encode-requires : tie.Need-encode-requires Inv-loop μ-loop
-encode-requires c κs = search needs
+μ-loop p times c₀ i₀ c i = times - i
 
 loop-holds : tie.Need-loop-holds Inv-loop μ-loop
 loop-holds c = (omega arith, search needs)
 
-slice-aggregate-take-post : tie.Need-slice-aggregate-take-post Inv-loop μ-loop
-slice-aggregate-take-post c = search needs
-
-take-post-requires : tie.Need-take-post-requires Inv-loop μ-loop
-take-post-requires c κs = search needs
+took-requires : tie.Need-took-requires Inv-loop μ-loop
+took-requires c κs = search needs
 
 add-i : tie.Need-add-i Inv-loop μ-loop
 add-i c = omega arith
@@ -41,10 +35,8 @@ repeated-spec =
     (tie.spec
     Inv-loop
     μ-loop
-    encode-requires
     loop-holds
-    slice-aggregate-take-post
-    take-post-requires
+    took-requires
     add-i
     loop-less
     loop-again
