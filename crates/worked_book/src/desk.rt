@@ -1,0 +1,115 @@
+// The library's calls, each with its line.
+ghost use Rattle.book.specs.Site.{Sound};
+use crate::line;
+use crate::posts;
+use book::post::Post;
+use book::posting;
+use book::report;
+use book::setup;
+use book::site::Book;
+use book::stage;
+
+pub(crate) fn give(b: Book, p: Post) -> Book
+    requires { ⌜ Sound b ⌝ }
+    ensures { λ r. ⌜ Sound r ⌝ }
+{
+    line::post(p);
+    let bytes = posts::encode(p);
+    let answered = posting::take_post(b, &bytes);
+    let verdict = answered.verdict;
+    line::verdict(verdict);
+    answered.book
+}
+
+// Kind, material, stage, substance, content and quantity.
+pub(crate) fn post(b: Book, k: u8, m: u8, t: u8, s: u8, content: u32, quantity: u64) -> Book
+    requires { ⌜ Sound b ⌝ }
+    ensures { λ r. ⌜ Sound r ⌝ }
+{
+    give(b, posts::of(k, m, t, s, content, quantity))
+}
+
+// Form, stage, substance and floats.
+pub(crate) fn vapour(b: Book, form: u8, t: u8, s: u8, w: u64, u: u64, p: u64, q: u64) -> Book
+    requires { ⌜ Sound b ⌝ }
+    ensures { λ r. ⌜ Sound r ⌝ }
+{
+    give(
+        b,
+        posts::with_floats(posts::of(12, form, t, s, 0, 0), w, u, p, q),
+    )
+}
+
+pub(crate) fn close(b: Book) -> Book
+    requires { ⌜ Sound b ⌝ }
+    ensures { λ r. ⌜ Sound r ⌝ }
+{
+    post(b, 13, 0, 0, 0, 0, 0)
+}
+
+// A post of any bytes, named by how many they are.
+pub(crate) fn bytes(b: Book, s: &[u8]) -> Book
+    requires { ⌜ Sound b ⌝ }
+    ensures { λ r. ⌜ Sound r ⌝ }
+{
+    line::text(b"bytes");
+    line::number(s.len() as u64);
+    let answered = posting::take_post(b, s);
+    let verdict = answered.verdict;
+    line::verdict(verdict);
+    answered.book
+}
+
+pub(crate) fn set_up(b: Book, count: u8, body: &[u8; 500]) -> Book
+    requires { ⌜ Sound b ⌝ }
+    ensures { λ r. ⌜ Sound r ⌝ }
+{
+    set_up_of(b, count, body)
+}
+
+// A body of any length.
+pub(crate) fn set_up_of(b: Book, count: u8, body: &[u8]) -> Book
+    requires { ⌜ Sound b ⌝ }
+    ensures { λ r. ⌜ Sound r ⌝ }
+{
+    line::text(b"set-up");
+    line::number(count as u64);
+    let answered = setup::set_up(b, count, body);
+    let verdict = answered.verdict;
+    line::verdict(verdict);
+    answered.book
+}
+
+pub(crate) fn describe(b: Book, place: u8, body: &[u8; 500]) -> Book
+    requires { ⌜ Sound b ⌝ }
+    ensures { λ r. ⌜ Sound r ⌝ }
+{
+    describe_of(b, place, body)
+}
+
+// A body of any length.
+pub(crate) fn describe_of(b: Book, place: u8, body: &[u8]) -> Book
+    requires { ⌜ Sound b ⌝ }
+    ensures { λ r. ⌜ Sound r ⌝ }
+{
+    line::text(b"stage");
+    line::number(place as u64);
+    let answered = stage::describe(b, place, body);
+    let verdict = answered.verdict;
+    line::verdict(verdict);
+    answered.book
+}
+
+pub(crate) fn report(b: Book, place: usize)
+    requires { ⌜ Sound b ⌝ }
+{
+    line::report(place, report::report_of(b, place));
+}
+
+// Two substances.
+pub(crate) fn reports(b: Book)
+    requires { ⌜ Sound b ⌝ }
+{
+    report(b, 0);
+    report(b, 1);
+}

@@ -1,0 +1,22 @@
+// The paper's year of xylene: 225 kg are filed as 230, and 135 kg stay in store.
+use crate::bodies;
+use crate::desk;
+use crate::line;
+use book::site;
+
+pub(crate) fn year() {
+    line::text(b"xylene\n");
+    let body = bodies::substance(bodies::begun(1, 1), 0, 80, 1);
+    let body = bodies::content(body, 0, 0, 450_000);
+    let mut b = desk::set_up(site::fresh(), 1, &body);
+    let body = bodies::treated(bodies::begun(1, 1), 0, 1, 0, 0, 0, 0);
+    b = desk::describe(b, 0, &body);
+    desk::report(b, 0);
+    b = desk::post(b, 1, 0, 0, 0, 0, 500_000);
+    b = desk::post(b, 2, 0, 0, 0, 0, 2_500_000);
+    b = desk::post(b, 3, 0, 0, 0, 0, 2_700_000);
+    b = desk::post(b, 5, 0, 0, 0, 450_000, 2_200_000);
+    desk::report(b, 0);
+    b = desk::close(b);
+    desk::report(b, 0);
+}
