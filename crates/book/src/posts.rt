@@ -17,11 +17,11 @@ use crate::setup;
 use crate::site::Book;
 use amounts::decline;
 
-// Each post is tried on the book that the earlier ones left; at a decline the book given in comes back.
+// Each post is tried on the book that the earlier ones left. Beside a decline stands the book so far: only `take_posts` restores the one given in.
 fn take_all(b: Book, body: &[u8], n: usize) -> Answered
     requires { ⌜ Sound b ⌝ }
     requires { ⌜ n * 48 ≤ length (now body) ⌝ }
-    ensures { λ r. ⌜ r ≡ outcome b (takenTo b (postIn (now (body .entry))) n) ⌝ }
+    ensures { λ r. ⌜ r ≡ outcome (r .book) (takenTo b (postIn (now (body .entry))) n) ⌝ }
     ensures { λ r. ⌜ Sound (r .book) ⌝ }
 {
     let mut left = b;
@@ -30,8 +30,8 @@ fn take_all(b: Book, body: &[u8], n: usize) -> Answered
         let at = i * 48;
         let a = posting::take_post(left, &body[at..at + 48]);
         let v = a.verdict;
-        if let Verdict::Declined(d) = v {
-            return answer::declined(b, d);
+        if let Verdict::Declined(_) = v {
+            return a;
         }
         let next = a.book;
         left = next;
@@ -78,10 +78,10 @@ pub fn take_posts(b: Book, count: u8, body: &[u8]) -> Answered
     }
     let a = take_all(b, body, count as usize);
     let v = a.verdict;
-    if let Verdict::Declined(d) = v {
-        return answer::declined(b, d);
-    }
     let mut c = a.book;
+    if let Verdict::Declined(first) = v {
+        return answer::declined(b, first);
+    }
     c.blocks = c.blocks + 1;
     Answered {
         verdict: Verdict::Accepted,

@@ -54,14 +54,14 @@ declined-requires-2 c κs = search needs
 
 returns-2 : tie.Need-returns-2
 returns-2 c =
-    let k = c .before .before .before .before .before in
+    let k = c .before .before .before .before .before .before in
     let s = k .before .before .before .before .before .before in
     let a = s .args in
-    let t = c .before .before .before .before .take-all in
+    let t = c .before .before .before .before .before .take-all in
     let d = c .before .before .v .given .0 .0 in
     stays Sound (a .b) (postsOn (a .b) (a .count) (now (a .body))) (d .number) (c .declined2 .result)
     (post-declined (a .b) (a .count) (now (a .body)) (passes k) (d .number)
-    (was-declined (a .b) (takenTo (a .b) (postIn (now (a .body))) (a .count)) (t .result) d (t .ensures .0) (c .before .before .v .given .1)))
+    (was-declined (t .result .book) (takenTo (a .b) (postIn (now (a .body))) (a .count)) (t .result) d (t .ensures .0) (c .before .before .v .given .1)))
     (c .declined2 .ensures)
     (s .pre)
 
@@ -79,7 +79,7 @@ returns-3 c =
     let t = c .before .before .before .before .take-all in
     let e =
     all-taken (a .b) (a .count) (now (a .body)) (passes k) (t .result .book)
-    (was-accepted (a .b) (takenTo (a .b) (postIn (now (a .body))) (a .count)) (t .result) (t .ensures .0) (c .before .before .enum-told2 .given .1)) in
+    (was-accepted (t .result .book) (takenTo (a .b) (postIn (now (a .body))) (a .count)) (t .result) (t .ensures .0) (c .before .enum-told2 .given .1)) in
     (ap (outcome (a .b)) (sym e), posts-sound (a .b) _ (a .count) (now (a .body)) (s .pre) e)
 
 pub take-posts-spec : {M : Type 1} → statement M
