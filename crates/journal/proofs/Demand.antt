@@ -32,7 +32,7 @@ use Rattle.book.proofs.report.Laws.{report-handled, report-entered, headings-fi
 use Rattle.book.proofs.setup.Laws.{within-true}
 use Rattle.book.proofs.site.Laws.{sound-fresh}
 use Rattle.journal.specs.Block.{kindOf, countOf, bodyOf, frameChecks, byKind, blockOn}
-use Rattle.journal.specs.Demand.{Call, post, block, answerTo, after, run, keep, accepted, postsIn, postsOf, orCounted, countedOf, sumOver, Balanced, Demand3}
+use Rattle.journal.specs.Demand.{Call, post, block, answerTo, after, run, keep, accepted, postsIn, postsOf, blocksIn, blocksOf, countedOf, sumOver, Balanced, Demand3}
 use Rattle.book.proofs.posts.Laws.{post-step, Many, many-taken, posts-count, posts-taken, posts-sound}
 use Rattle.book.proofs.setup.Taken.{set-up-taken}
 use Rattle.book.proofs.stage.Taken.{described-taken}
@@ -71,13 +71,13 @@ block-taken b c s e =
 -- ---- sums over posts
 
 -- the sum over posts and then more posts
-sum-append : (f : List ℕ → ℕ) (ps qs : List (List ℕ)) → sumOver f (ps ++ qs) ≡ sumOver f ps + sumOver f qs
+pub sum-append : (f : List ℕ → ℕ) (ps qs : List (List ℕ)) → sumOver f (ps ++ qs) ≡ sumOver f ps + sumOver f qs
 unfolding sumOver
 sum-append f [] qs = omega arith
 sum-append f (p ∷ ps) qs = omega (arith, sum-append f ps qs)
 
 -- the sum over posts listed by number
-sum-list : (g : List ℕ → ℕ) (n : ℕ) (f : ℕ → List ℕ) → sumOver g (listTo n f) ≡ sumTo n (λ i. g (f i))
+pub sum-list : (g : List ℕ → ℕ) (n : ℕ) (f : ℕ → List ℕ) → sumOver g (listTo n f) ≡ sumTo n (λ i. g (f i))
 unfolding sumOver listTo sumTo
 sum-list g zero f = refl
 sum-list g (suc n) f = omega (arith, sum-append g (listTo n f) (f n ∷ []), sum-list g n f)
@@ -128,9 +128,9 @@ post-later o e =
 
 -- an accepted call sets up a book that had no substance, or adds its posts to one that has
 data Turn (b : Book) (call : Call) (c : Book) : Type 0 where
-  begins : b .setup .outline .substances ≡ 0 → Sound c → 1 ≤ c .setup .outline .substances → c .posts ≡ 0 → postsIn call ≡ []
-      → ((others : List ℕ) → orCounted call others ≡ c .setup .counted) → Turn b call c
-  goes-on : 1 ≤ b .setup .outline .substances → ((others : List ℕ) → orCounted call others ≡ others) → Grown (b .setup .counted) b (postsIn call) c → Turn b call c
+  begins : b .setup .outline .substances ≡ 0 → Sound c → 1 ≤ c .setup .outline .substances → c .posts ≡ 0 → postsIn call ≡ [] → (t : List ℕ) → blocksIn 1 call ≡ t ∷ []
+      → countedAll (classesIn (bodyOf t)) (contentsIn (bodyOf t)) ≡ c .setup .counted → Turn b call c
+  goes-on : 1 ≤ b .setup .outline .substances → Grown (b .setup .counted) b (postsIn call) c → Turn b call c
 
 -- a sum of one amount
 alone : (x m : ℕ) → x + m ≡ x + (m + 0)
@@ -142,7 +142,7 @@ unfolding sumOver
 post-turn b c s h e =
     let t = post-step b c s h e in
     let l = post-later (b .setup .outline) (post-was-taken b s h c e .0 .in-turn) in
-    goes-on l (λ others. refl)
+    goes-on l
     (record {
       sound = t .sound;
       some = subst (λ (u : Setup). 1 ≤ u .outline .substances) (sym (t .same-setup)) l;
@@ -152,18 +152,18 @@ post-turn b c s h e =
       handled = λ i g. t .handled i g ∙ alone _ _;
     })
 
--- the posts and the contents that a block holds, by its kind
-no-posts : (s : List ℕ) → (kindOf s ≡ 3 → ⊥) → postsIn (block s) ≡ []
+-- what a block holds, by its kind
+pub no-posts : (s : List ℕ) → (kindOf s ≡ 3 → ⊥) → postsIn (block s) ≡ []
 no-posts s d = rw (ne-eqb (kindOf s) 3 d)
 
-its-posts : (s : List ℕ) → kindOf s ≡ 3 → postsIn (block s) ≡ listTo (countOf s) (postIn (bodyOf s))
+pub its-posts : (s : List ℕ) → kindOf s ≡ 3 → postsIn (block s) ≡ listTo (countOf s) (postIn (bodyOf s))
 its-posts s e = rw (eq-eqb (kindOf s) 3 e)
 
-no-contents : (s : List ℕ) → (kindOf s ≡ 1 → ⊥) → (others : List ℕ) → orCounted (block s) others ≡ others
-no-contents s d others = rw (ne-eqb (kindOf s) 1 d)
+pub no-block : (kind : ℕ) (s : List ℕ) → (kindOf s ≡ kind → ⊥) → blocksIn kind (block s) ≡ []
+no-block kind s d = rw (ne-eqb (kindOf s) kind d)
 
-its-contents : (s : List ℕ) → kindOf s ≡ 1 → (others : List ℕ) → orCounted (block s) others ≡ countedAll (classesIn (bodyOf s)) (contentsIn (bodyOf s))
-its-contents s e others = rw (eq-eqb (kindOf s) 1 e)
+pub its-block : (kind : ℕ) (s : List ℕ) → kindOf s ≡ kind → blocksIn kind (block s) ≡ s ∷ []
+its-block kind s e = rw (eq-eqb (kindOf s) kind e)
 
 -- the posts of a block, as many as it counts
 many-grown : (b d : Book) (f : ℕ → List ℕ) (n : ℕ) → 1 ≤ b .setup .outline .substances → Many b f n d → Sound (withBlock d) → Grown (b .setup .counted) b (listTo n f) (withBlock d)
@@ -178,7 +178,7 @@ many-grown b d f n l m h =
     }
 
 -- a book with a stage left to describe has substances
-stage-later : (o : Outline) → (o .substances ≡ 0 → o .stages ≡ 0) → o .described < o .stages → 1 ≤ o .substances
+pub stage-later : (o : Outline) → (o .substances ≡ 0 → o .stages ≡ 0) → o .described < o .stages → 1 ≤ o .substances
 stage-later o h l = go (o .substances) h
   where
     go : (n : ℕ) → (n ≡ 0 → o .stages ≡ 0) → 1 ≤ n
@@ -197,20 +197,19 @@ block-turn : (b c : Book) (s : List ℕ) → Sound b → Kind b s c → Turn b (
 block-turn b c s h (sets k e) =
     let z = set-up-taken b c (countOf s) (bodyOf s) h e in
     begins (z .1 .none) (z .2) (subst (λ (x : Book). 1 ≤ x .setup .outline .substances) (sym (z .0)) (z .1 .substances .0)) (z .3)
-    (no-posts s (λ e. omega arith))
-    (λ others. its-contents s k others ∙ ap (λ (x : Book). x .setup .counted) (sym (z .0)))
+    (no-posts s (λ e. omega arith)) s (its-block 1 s k) (ap (λ (x : Book). x .setup .counted) (sym (z .0)))
 block-turn b c s h (describes k e) =
     let z = described-taken b c (countOf s) (bodyOf s) h e in
     let l = stage-later (b .setup .outline) (h .setup .stages-later) (z .1 .left) in
     let g = stage-grown b (countOf s) (bodyOf s) l (subst Sound (z .0) (z .2)) in
-    goes-on l (no-contents s (λ e. omega arith))
+    goes-on l
     (rw (no-posts s (λ e. omega arith)) (subst (λ (x : Book). Grown (b .setup .counted) b [] x) (sym (z .0)) g))
 block-turn b c s h (posts k e) =
     let z = posts-taken b c (countOf s) (bodyOf s) e in
     let l = post-later (b .setup .outline) (posts-count b c (countOf s) (bodyOf s) e .2) in
     let m = many-taken b (z .0) (postIn (bodyOf s)) (countOf s) h (z .1) in
     let g = many-grown b (z .0) (postIn (bodyOf s)) (countOf s) l m (subst Sound (z .2) (posts-sound b c (countOf s) (bodyOf s) h e)) in
-    goes-on l (no-contents s (λ e. omega arith))
+    goes-on l
     (rw (its-posts s k) (subst (λ (x : Book). Grown (b .setup .counted) b (listTo (countOf s) (postIn (bodyOf s))) x) (sym (z .2)) g))
 
 -- what an accepted call does
@@ -222,8 +221,8 @@ call-turn b c (block s) h e = block-turn b c s h (block-taken b c s e .1)
 
 -- an accepted call leaves a sound book
 turn-sound : (b c : Book) (call : Call) → Turn b call c → Sound c
-turn-sound b c call (begins none h l n ps k) = h
-turn-sound b c call (goes-on l k g) = g .sound
+turn-sound b c call (begins none h l n ps t w k) = h
+turn-sound b c call (goes-on l g) = g .sound
 
 -- every call leaves a sound book
 pub after-sound : (b : Book) (call : Call) → Sound b → Sound (after b call)
@@ -262,8 +261,8 @@ later-call b call calls h l rest (declined n) e = rest b h l
 later-call b call calls h l rest (taken c) e = go (call-turn b c call h e)
   where
     go : Turn b call c → Grown (b .setup .counted) b (postsIn call ++ postsOf (accepted c calls)) (run c calls)
-    go (begins none k m n ps f) = absurd (omega arith)
-    go (goes-on m k g) =
+    go (begins none k m n ps t w f) = absurd (omega arith)
+    go (goes-on m g) =
         grown-more (b .setup .counted) b c (run c calls) (postsIn call) (postsOf (accepted c calls)) g
         (subst (λ (x : List ℕ). Grown x c (postsOf (accepted c calls)) (run c calls)) (g .same) (rest c (g .sound) (g .some)))
 
@@ -289,20 +288,20 @@ First calls = (b : Book) → Sound b → b .setup .outline .substances ≡ 0 →
 first-call : (b : Book) (call : Call) (calls : List Call) → Sound b → b .setup .outline .substances ≡ 0 → First calls → (a : Answer Book) → answerTo b call ≡ a
     → 1 ≤ run (valueOr b a) calls .setup .outline .substances
     → Begun (keep (isTaken a) call (accepted (valueOr b a) calls)) (run (valueOr b a) calls)
-unfolding postsOf countedOf
+unfolding postsOf blocksOf
 first-call b call calls h z rest (declined n) e l = rest b h z l
 first-call b call calls h z rest (taken c) e l = go (call-turn b c call h e)
   where
     go : Turn b call c → Begun (call ∷ accepted c calls) (run c calls)
-    go (begins none k m n ps f) =
+    go (begins none k m n ps t w f) =
         record {
           start = c;
           sound = k;
           none = n;
-          contents = f (countedOf (accepted c calls));
+          contents = rw w f;
           grown = rw ps (later calls c k m);
         }
-    go (goes-on m k g) = absurd (omega arith)
+    go (goes-on m g) = absurd (omega arith)
 
 -- call by call
 first : (calls : List Call) → First calls
@@ -313,7 +312,7 @@ first (call ∷ calls) b h z l = first-call b call calls h z (first calls) (answ
 -- ---- the report
 
 -- a report is of a substance that the book has
-report-taken : (b : Book) (s : ℕ) (r : Report) → reportOf b s ≡ taken r → (s < b .setup .outline .substances) × (r ≡ reportAt b s)
+pub report-taken : (b : Book) (s : ℕ) (r : Report) → reportOf b s ≡ taken r → (s < b .setup .outline .substances) × (r ≡ reportAt b s)
 unfolding reportOf
 report-taken b s r e =
     let z = one-taken (ltb s (b .setup .outline .substances)) unknown (reportAt b s) r (sym e) in

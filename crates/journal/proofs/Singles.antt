@@ -3,7 +3,7 @@ use mathlib.Core.Path.{_≡_, refl, sym, ap, _∙_}
 use mathlib.Core.List.{List, [], _∷_, _++_}
 use Prim.Native.Nat.{ℕ, zero, suc}
 use native.Mathlib.Omega.{arith}
-use Rattle.amounts.specs.Decline.{Answer, taken, onTaken, valueOr}
+use Rattle.amounts.specs.Decline.{taken, valueOr}
 use Rattle.amounts.proofs.decline.Laws.{was-taken}
 use Rattle.book.specs.Each.{listTo}
 use Rattle.book.specs.Posting.{postOn}

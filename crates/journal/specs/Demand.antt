@@ -4,7 +4,7 @@ use mathlib.Core.Path.{_≡_}
 use mathlib.Core.Bool.{Bool, true, false, cond}
 use mathlib.Core.List.{List, [], _∷_, _++_}
 use lib.Dec.{eqb}
-use lib.ListN.{length}
+use lib.ListN.{length, getD}
 use Rattle.amounts.specs.Decline.{Answer, taken, isTaken, valueOr}
 use Rattle.amounts.specs.Filed.{stepOf}
 use Rattle.book.specs.Each.{listTo}
@@ -56,14 +56,22 @@ unfoldable pub postsOf : List Call → List (List ℕ)
 postsOf [] = []
 postsOf (call ∷ calls) = postsIn call ++ postsOf calls
 
--- "contents and classes being those of that kind 1 block": the contents as counted
-abbrev pub orCounted : Call → List ℕ → List ℕ
-orCounted (post s) others = others
-orCounted (block s) others = cond (eqb (kindOf s) 1) (countedAll (classesIn (bodyOf s)) (contentsIn (bodyOf s))) others
+-- the accepted blocks of a kind, in turn
+abbrev pub blocksIn : ℕ → Call → List (List ℕ)
+blocksIn kind (post s) = []
+blocksIn kind (block s) = cond (eqb (kindOf s) kind) (s ∷ []) []
 
-unfoldable pub countedOf : List Call → List ℕ
-countedOf [] = []
-countedOf (call ∷ calls) = orCounted call (countedOf calls)
+unfoldable pub blocksOf : ℕ → List Call → List (List ℕ)
+blocksOf kind [] = []
+blocksOf kind (call ∷ calls) = blocksIn kind call ++ blocksOf kind calls
+
+-- "that kind 1 block", and no bytes before it
+abbrev pub setUpOf : List Call → List ℕ
+setUpOf calls = getD (blocksOf 1 calls) 0 []
+
+-- "contents and classes being those of that kind 1 block": the contents as counted
+abbrev pub countedOf : List Call → List ℕ
+countedOf calls = countedAll (classesIn (bodyOf (setUpOf calls))) (contentsIn (bodyOf (setUpOf calls)))
 
 -- "All is added over the accepted posts of the list"
 unfoldable pub sumOver : (List ℕ → ℕ) → List (List ℕ) → ℕ
@@ -77,8 +85,8 @@ abbrev pub handled : List Call → ℕ → ℕ
 handled calls s = sumOver (λ p. handles (countedOf calls) s (postAt p)) (postsOf calls)
 
 -- twice one number is at most twice another and the steps
-abbrev pub within : ℕ → ℕ → ℕ → Type 0
-within steps a b = (2 * a ≤ 2 * b + steps) × (2 * b ≤ 2 * a + steps)
+abbrev pub withinHalf : ℕ → ℕ → ℕ → Type 0
+withinHalf steps a b = (2 * a ≤ 2 * b + steps) × (2 * b ≤ 2 * a + steps)
 
 -- a report against the accepted calls of the list
 pub record Balanced (calls : List Call) (s : ℕ) (r : Report) : Type 0 where
@@ -89,7 +97,7 @@ pub record Balanced (calls : List Call) (s : ℕ) (r : Report) : Type 0 where
   -- which is what the report returns as handled
   pub shown : r .handled ≡ handled calls s
   -- the filed figures and the exact amounts: "each heading's step is the one that its exact amount takes"
-  pub figures : r .due ≡ true → (h : Headings) × (r .filed ≡ Figures h) × within (sixOf (mapHeadings stepOf (r .line .headings))) (sixOf h) (sixOf (r .line .headings))
+  pub figures : r .due ≡ true → (h : Headings) × (r .filed ≡ Figures h) × withinHalf (sixOf (mapHeadings stepOf (r .line .headings))) (sixOf h) (sixOf (r .line .headings))
   -- "the count of posts accepted"
   pub counted : r .posts ≡ length (postsOf calls)
 

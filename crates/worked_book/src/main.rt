@@ -13,11 +13,13 @@ mod sites;
 mod slips;
 mod stages;
 mod trials;
+mod weighed;
 mod xylene;
 mod year;
 
 fn main() {
     xylene::year();
+    weighed::list();
     year::whole();
     declines::turns();
     declines::closed();

@@ -1,4 +1,8 @@
-// The paper's year of xylene: 225 kg are filed as 230, and 135 kg stay in store.
+// The paper's year of xylene, worked from its posts, in kg of xylene (g times 450,000 ppm):
+//   opening 225, bought 1,125, issued 1,215, so 225 + 1,125 - 1,215 = 135 stay in store;
+//   handled: issued 1,215 and nothing formed, which is due in class 1 from 1,000;
+//   shipped 990, so the stage holds 1,215 - 990 = 225 until the close moves them to gas, its side;
+//   with all rates 0 the 225 are released to air, and filed as 230, the step being 10.
 use crate::bodies;
 use crate::desk;
 use crate::line;
