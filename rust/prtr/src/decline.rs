@@ -65,7 +65,9 @@ impl Decline {
 
     /// The decline with this number, or `None` where document 01 has none.
     pub fn from_number(number: u8) -> Option<Decline> {
-        Decline::ALL.into_iter().find(|decline| decline.number() == number)
+        Decline::ALL
+            .into_iter()
+            .find(|decline| decline.number() == number)
     }
 
     /// Document 01's words, cut short.

@@ -49,11 +49,23 @@ impl Form {
     /// The floats w, u, p and q of a post, in that order.
     pub const fn floats(self) -> [f64; 4] {
         match self {
-            Form::FloatingRoof { diameter, content, drawn } => [diameter, content, drawn, 0.0],
-            Form::FixedRoof { volume, partial, tank, share } => [volume, partial, tank, share],
-            Form::Station { received, filling, dispensed, fuelling } => {
-                [received, filling, dispensed, fuelling]
-            }
+            Form::FloatingRoof {
+                diameter,
+                content,
+                drawn,
+            } => [diameter, content, drawn, 0.0],
+            Form::FixedRoof {
+                volume,
+                partial,
+                tank,
+                share,
+            } => [volume, partial, tank, share],
+            Form::Station {
+                received,
+                filling,
+                dispensed,
+                fuelling,
+            } => [received, filling, dispensed, fuelling],
         }
     }
 }

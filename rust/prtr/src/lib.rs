@@ -73,14 +73,17 @@ pub struct Parts {
 
 /// The answer where the library's status is 0, and else the decline with that number.
 fn answer<A>(status: u8, value: A) -> Result<A, Decline> {
-    match (status, Decline::from_number(status)) {
-        (0, _) => Ok(value),
-        (_, Some(decline)) => Err(decline),
-        (_, None) => panic!("libprtr.a answered {status}, which is no decline of document 01"),
+    if status == 0 {
+        return Ok(value);
+    }
+    match Decline::from_number(status) {
+        Some(decline) => Err(decline),
+        None => panic!("libprtr.a answered {status}, which is no decline of document 01"),
     }
 }
 
-/// A material's content of a substance as it counts: from 10,000 ppm in class one and from 1,000 ppm in class two as it is, else 0.
+/// A material's content of a substance as it counts: from 10,000 ppm in class one and from
+/// 1,000 ppm in class two as it is, else 0.
 ///
 /// Declines a class other than 1 and 2, and more than 1,000,000 ppm, by [`Decline::Layout`].
 ///
@@ -112,7 +115,11 @@ pub fn counted(class: impl Into<u8>, ppm: u32) -> Result<u32, Decline> {
 /// ```
 pub fn split(total: u64, removal: u32, destruction: u32) -> Result<Parts, Decline> {
     let mut parts = Parts::default();
-    let Parts { released, destroyed, residue } = &mut parts;
+    let Parts {
+        released,
+        destroyed,
+        residue,
+    } = &mut parts;
     let status = raw::split(total, removal, destruction, released, destroyed, residue);
     answer(status, parts)
 }
@@ -268,7 +275,8 @@ pub fn filing(journal: &[u8]) -> String {
     String::from_utf8(out).expect("the text of a return is ASCII")
 }
 
-/// Puts the text of [`filing`] at the start of `out` and gives its length; `None`, and `out` as it was, where `out` is shorter than [`ROOM`].
+/// Puts the text of [`filing`] at the start of `out` and gives its length; `None`, and `out` as it
+/// was, where `out` is shorter than [`ROOM`].
 ///
 /// The bytes behind the text stay as they were.
 ///

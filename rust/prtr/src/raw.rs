@@ -70,7 +70,8 @@ pub fn loss(form: u8, number: u16, floats: [u64; 4], micrograms: &mut u64) -> u8
     unsafe { c::prtr_loss(form, number, w, u, p, q, micrograms) }
 }
 
-/// How many bytes of text are now at the start of `out`, or 0 and `out` as before where it is shorter than [`ROOM`](crate::ROOM).
+/// How many bytes of text are now at the start of `out`, or 0 and `out` as before where it is
+/// shorter than [`ROOM`](crate::ROOM).
 pub fn filing(journal: &[u8], out: &mut [u8]) -> usize {
     unsafe { c::prtr_filing(journal.as_ptr(), journal.len(), out.as_mut_ptr(), out.len()) }
 }

@@ -2,7 +2,7 @@
 //!
 //! A text shows two digits of a heading, so that a microgram too many shows only at such an edge.
 
-use crate::layout::Post;
+use crate::layout::{Holding, Post};
 use crate::ledger::{exactly, MOST_MICROGRAMS};
 use crate::rng::Rng;
 use crate::site::Site;
@@ -24,9 +24,9 @@ pub fn aim(rng: &mut Rng, year: &mut Year, close: bool) {
             2 => missing + rng.size(due),
             _ => 0,
         };
-        let (stage, _) = year.ledger.any_pair(rng);
+        let (stage, _) = year.ledger.any_holding(rng);
         if quantity > 0 {
-            year.add(Post { kind: 4, stage, substance, quantity, ..Post::default() });
+            year.add(Post::formed((stage, substance), quantity));
         }
     }
     for (substance, report) in (0u8..).zip(reports(&year.site, &year.posts, close)) {
@@ -45,29 +45,35 @@ fn reports(site: &Site, posts: &[Post], close: bool) -> Vec<model::Report> {
         book.block(&block).expect("a site's set-up is taken");
     }
     for post in posts.iter().chain(close.then_some(&Post::CLOSE)) {
-        book.post(&post.bytes()).expect("a post in balance is taken");
+        book.post(&post.bytes())
+            .expect("a post in balance is taken");
     }
-    (0..book.substances()).map(|place| book.report(place).expect("a substance of the book")).collect()
+    (0..book.substances())
+        .map(|place| book.report(place).expect("a substance of the book"))
+        .collect()
 }
 
 /// Forms what is missing to an edge and lets it leave under the heading, so that no holding changes.
 fn raise(rng: &mut Rng, year: &mut Year, heading: usize, substance: u8, amount: u64) {
     let quantity = missing(rng, amount);
-    let Some(stage) = stage_for(rng, &year.site, heading, substance) else { return };
+    let Some(stage) = stage_for(rng, &year.site, heading, substance) else {
+        return;
+    };
+    let holding = (stage, substance);
     if !(1..=MOST_MICROGRAMS).contains(&quantity) {
         return;
     }
     let leaving = match heading {
-        0 => vapour(year.site.numbers[substance as usize], stage, substance, quantity),
-        1 | 4 => exactly(11, stage, substance, quantity),
-        2 => exactly(8, stage, substance, quantity),
-        3 => exactly(7, stage, substance, quantity),
-        _ => exactly(6, stage, substance, quantity),
+        0 => vapour(year.site.numbers[substance as usize], holding, quantity),
+        1 | 4 => exactly(11, holding, quantity),
+        2 => exactly(8, holding, quantity),
+        3 => exactly(7, holding, quantity),
+        _ => exactly(6, holding, quantity),
     };
     if leaving.is_empty() {
         return;
     }
-    year.add(Post { kind: 4, stage, substance, quantity, ..Post::default() });
+    year.add(Post::formed(holding, quantity));
     for post in leaving {
         year.add(post);
     }
@@ -78,7 +84,11 @@ fn missing(rng: &mut Rng, amount: u64) -> u64 {
     let step = model::step(amount);
     let half = amount / step * step + step / 2;
     let edge = if half < amount { half + step } else { half };
-    let edge = if amount < TEN && rng.once_in(6) { TEN } else { edge };
+    let edge = if amount < TEN && rng.once_in(6) {
+        TEN
+    } else {
+        edge
+    };
     (edge - amount).saturating_sub(rng.below(2))
 }
 
@@ -99,10 +109,15 @@ fn stage_for(rng: &mut Rng, site: &Site, heading: usize, substance: u8) -> Optio
 }
 
 /// A station's loss of exactly so many micrograms, where a float gives it.
-fn vapour(number: u16, stage: u8, substance: u8, micrograms: u64) -> Vec<Post> {
+fn vapour(number: u16, holding: Holding, micrograms: u64) -> Vec<Post> {
     let near = (micrograms as f64 / 1e9).to_bits();
     let one = 1f64.to_bits();
     let fits = |&kg: &u64| model::loss(3, number, kg, one, 0, 0) == Ok(micrograms);
-    let post = |kg| Post { kind: 12, material: 3, stage, substance, floats: [kg, one, 0, 0], ..Post::default() };
-    [near, near + 1].into_iter().find(fits).map(post).into_iter().collect()
+    let post = |kg| Post::vapour(3, holding, [kg, one, 0, 0]);
+    [near, near + 1]
+        .into_iter()
+        .find(fits)
+        .map(post)
+        .into_iter()
+        .collect()
 }

@@ -1,8 +1,10 @@
 //! Faults in a journal, one at a time or two at once.
 
 use crate::floats::{edges, within, RANGES, SPECIALS};
-use crate::layout::{posts_block, put_sums, renumber, seal, sums, Block, Post, BLOCK, BODY, POST, SUMS};
-use crate::ledger::{exactly, MOST_GRAMS};
+use crate::layout::{
+    posts_block, put_sums, renumber, seal, sums, Block, Post, BLOCK, BODY, POST, SUMS,
+};
+use crate::ledger::{exactly, MOST_GRAMS, MOST_MICROGRAMS};
 use crate::rng::Rng;
 use crate::year::Year;
 
@@ -50,8 +52,8 @@ pub fn damaged(rng: &mut Rng, year: &Year) -> Vec<u8> {
 
 /// Flips a bit and leaves the check sums.
 fn flip(rng: &mut Rng, blocks: &mut Vec<Block>) {
-    let block = rng.place(blocks.len());
-    blocks[block][rng.place(BLOCK)] ^= 1 << rng.below(8);
+    let block = any_block(rng, blocks);
+    block[rng.place(BLOCK)] ^= 1 << rng.below(8);
 }
 
 /// Flips a bit and mends the check sums.
@@ -64,7 +66,7 @@ fn flip_and_seal(rng: &mut Rng, blocks: &mut Vec<Block>) {
 /// Sets a byte to an edge or to anything, and mends the check sums.
 fn byte_and_seal(rng: &mut Rng, blocks: &mut Vec<Block>) {
     let block = any_block(rng, blocks);
-    let any = rng.next() as u8;
+    let any = rng.word() as u8;
     block[rng.place(SUMS)] = rng.pick(&[0, 1, 2, 3, 8, 9, 12, 13, 127, 128, 255, any]);
     seal(block);
 }
@@ -72,7 +74,7 @@ fn byte_and_seal(rng: &mut Rng, blocks: &mut Vec<Block>) {
 /// Breaks "PRTR".
 fn tag(rng: &mut Rng, blocks: &mut Vec<Block>) {
     let block = any_block(rng, blocks);
-    block[rng.place(4)] = rng.next() as u8;
+    block[rng.place(4)] = rng.word() as u8;
     if rng.once_in(2) {
         seal(block);
     }
@@ -88,7 +90,7 @@ fn stored_sums(rng: &mut Rng, blocks: &mut Vec<Block>) {
         2 => [placed, plain],
         3 => [0, 0],
         4 => [plain.wrapping_add(65_521), placed],
-        _ => [rng.next() as u16, rng.next() as u16],
+        _ => [rng.word() as u16, rng.word() as u16],
     };
     put_sums(block, wrong);
 }
@@ -107,7 +109,9 @@ fn head(rng: &mut Rng, blocks: &mut Vec<Block>) {
 
 /// Sets a field of a post to an edge.
 fn field(rng: &mut Rng, blocks: &mut Vec<Block>) {
-    let Some((block, at)) = any_post(rng, blocks) else { return };
+    let Some((block, at)) = any_post(rng, blocks) else {
+        return;
+    };
     let post = &mut blocks[block][at..at + POST];
     match rng.below(7) {
         0 => post[0] = rng.below(16) as u8,
@@ -121,19 +125,42 @@ fn field(rng: &mut Rng, blocks: &mut Vec<Block>) {
 }
 
 fn content(rng: &mut Rng) -> u32 {
-    rng.pick(&[0, 1, 999_999, 1_000_000, 1_000_001, 1 << 24, 1 << 31, u32::MAX])
+    rng.pick(&[
+        0,
+        1,
+        999_999,
+        1_000_000,
+        1_000_001,
+        1 << 24,
+        1 << 31,
+        u32::MAX,
+    ])
 }
 
 fn quantity(rng: &mut Rng) -> u64 {
     let grams = 2_000_000_000;
     let micrograms = 2_000_000_000_000_000;
-    let any = rng.next();
-    rng.pick(&[0, 1, 2, grams, grams + 1, micrograms, micrograms + 1, 1 << 32, 1 << 63, u64::MAX, any])
+    let any = rng.word();
+    rng.pick(&[
+        0,
+        1,
+        2,
+        grams,
+        grams + 1,
+        micrograms,
+        micrograms + 1,
+        1 << 32,
+        1 << 63,
+        u64::MAX,
+        any,
+    ])
 }
 
 /// Sets a float to an end of its range, to a float beside it or to what no range has.
 fn float(rng: &mut Rng, blocks: &mut Vec<Block>) {
-    let Some((block, at)) = vapour_post(rng, blocks) else { return };
+    let Some((block, at)) = vapour_post(rng, blocks) else {
+        return;
+    };
     let form = blocks[block][at + 1];
     let place = rng.place(4);
     let bits = match (blocks[block][at], form) {
@@ -165,16 +192,20 @@ fn great_loss(rng: &mut Rng, blocks: &mut Vec<Block>) {
 }
 
 fn make_vapour(rng: &mut Rng, blocks: &mut [Block], form: u8, floats: [u64; 4]) {
-    let Some((block, at)) = any_post(rng, blocks) else { return };
-    let (stage, substance) = (blocks[block][at + 2], blocks[block][at + 3]);
-    let post = Post { kind: 12, material: form, stage, substance, floats, ..Post::default() };
+    let Some((block, at)) = any_post(rng, blocks) else {
+        return;
+    };
+    let holding = (blocks[block][at + 2], blocks[block][at + 3]);
+    let post = Post::vapour(form, holding, floats);
     blocks[block][at..at + POST].copy_from_slice(&post.bytes());
     seal(&mut blocks[block]);
 }
 
 /// Lets a block's last post ask for all that a post may, after its others were in balance.
 fn late_fault(rng: &mut Rng, blocks: &mut Vec<Block>) {
-    let Some((block, _)) = any_post(rng, blocks) else { return };
+    let Some((block, _)) = any_post(rng, blocks) else {
+        return;
+    };
     let at = BODY + POST * (blocks[block][5].clamp(1, 10) as usize - 1);
     let post = &mut blocks[block][at..at + POST];
     post[8..16].copy_from_slice(&MOST_GRAMS.to_le_bytes());
@@ -222,7 +253,9 @@ fn perhaps_renumber(rng: &mut Rng, blocks: &mut [Block]) {
 
 /// Adds, in place of the close, posts that take all that a stage holds of a substance, to the microgram or one too many.
 fn overdraw(rng: &mut Rng, year: &Year, blocks: &mut Vec<Block>) {
-    let Some((stage, substance)) = year.ledger.holding_pair(rng) else { return };
+    let Some(holding) = year.ledger.filled(rng) else {
+        return;
+    };
     if year.posts.last() == Some(&Post::CLOSE) {
         let last = year.posts.len() - year.sizes.last().copied().unwrap_or(0);
         let kept = &year.posts[last..year.posts.len() - 1];
@@ -231,8 +264,9 @@ fn overdraw(rng: &mut Rng, year: &Year, blocks: &mut Vec<Block>) {
             blocks.push(posts_block(blocks.len() as u16, kept));
         }
     }
-    let held = year.ledger.held(stage, substance).min(1_999_999_999_999_999);
-    let posts = exactly(rng.range(5, 11) as u8, stage, substance, held + rng.below(2));
+    let held = year.ledger.held(holding).min(MOST_MICROGRAMS - 1);
+    let kind = rng.range(5, 11) as u8;
+    let posts = exactly(kind, holding, held + rng.below(2));
     blocks.push(posts_block(blocks.len() as u16, &posts));
 }
 
@@ -241,7 +275,7 @@ fn cut_or_extend(rng: &mut Rng, journal: &mut Vec<u8>) {
     match rng.below(3) {
         0 => journal.truncate(rng.place(journal.len())),
         1 => journal.truncate(rng.place(journal.len() / BLOCK) * BLOCK),
-        _ => journal.extend((0..rng.range(1, 600)).map(|_| rng.next() as u8)),
+        _ => journal.extend((0..rng.range(1, 600)).map(|_| rng.word() as u8)),
     }
 }
 
@@ -252,7 +286,9 @@ fn any_block<'a>(rng: &mut Rng, blocks: &'a mut [Block]) -> &'a mut Block {
 
 /// The block and offset of a post.
 fn any_post(rng: &mut Rng, blocks: &[Block]) -> Option<(usize, usize)> {
-    let places: Vec<usize> = (0..blocks.len()).filter(|&place| blocks[place][4] == 3).collect();
+    let places: Vec<usize> = (0..blocks.len())
+        .filter(|&place| blocks[place][4] == 3)
+        .collect();
     if places.is_empty() {
         return None;
     }

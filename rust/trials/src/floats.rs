@@ -61,7 +61,7 @@ pub fn any(rng: &mut Rng, range: (f64, f64)) -> u64 {
     match rng.below(16) {
         0 => rng.pick(&SPECIALS),
         1 => rng.pick(&edges(range)),
-        2 => rng.next(),
+        2 => rng.word(),
         _ => within(rng, range).to_bits(),
     }
 }

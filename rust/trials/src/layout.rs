@@ -16,6 +16,9 @@ pub const MODULUS: u32 = 65_521;
 /// One block.
 pub type Block = [u8; BLOCK];
 
+/// A stage's holding of a substance, by their places.
+pub type Holding = (u8, u8);
+
 /// A post by its fields.
 #[derive(Clone, Copy, Debug, Default, PartialEq)]
 pub struct Post {
@@ -46,6 +49,62 @@ impl Post {
         quantity: 0,
         floats: [0; 4],
     };
+
+    /// Kind 1 or 2: a material enters the store.
+    pub fn stock(kind: u8, material: u8, quantity: u64) -> Post {
+        Post {
+            kind,
+            material,
+            quantity,
+            ..Post::default()
+        }
+    }
+
+    /// Kind 3.
+    pub fn issued(material: u8, stage: u8, quantity: u64) -> Post {
+        Post {
+            kind: 3,
+            material,
+            stage,
+            quantity,
+            ..Post::default()
+        }
+    }
+
+    /// Kind 4.
+    pub fn formed((stage, substance): Holding, quantity: u64) -> Post {
+        Post {
+            kind: 4,
+            stage,
+            substance,
+            quantity,
+            ..Post::default()
+        }
+    }
+
+    /// Kinds 5 to 11.
+    pub fn left(kind: u8, (stage, substance): Holding, content: u32, quantity: u64) -> Post {
+        Post {
+            kind,
+            stage,
+            substance,
+            content,
+            quantity,
+            ..Post::default()
+        }
+    }
+
+    /// Kind 12.
+    pub fn vapour(form: u8, (stage, substance): Holding, floats: [u64; 4]) -> Post {
+        Post {
+            kind: 12,
+            material: form,
+            stage,
+            substance,
+            floats,
+            ..Post::default()
+        }
+    }
 
     /// The post's 48 bytes.
     pub fn bytes(&self) -> [u8; POST] {

@@ -1,7 +1,7 @@
 //! What is in store and held, so that posts can be made which a book takes.
 
 use crate::floats::{within, RANGES};
-use crate::layout::Post;
+use crate::layout::{Holding, Post};
 use crate::rng::Rng;
 use crate::site::{Site, ROWS, WHOLE};
 
@@ -25,7 +25,9 @@ impl Ledger {
     pub fn new(site: &Site, most_grams: u64) -> Ledger {
         let counted = |contents: &Vec<u32>| {
             let pairs = contents.iter().zip(&site.classes);
-            pairs.map(|(&ppm, &class)| model::counted(class, ppm).expect("a site's") as u64).collect()
+            pairs
+                .map(|(&ppm, &class)| model::counted(class, ppm).expect("a site's") as u64)
+                .collect()
         };
         Ledger {
             numbers: site.numbers.clone(),
@@ -80,7 +82,7 @@ impl Ledger {
     pub fn entered(&self, rng: &mut Rng) -> Post {
         let material = rng.place(self.store.len()) as u8;
         let quantity = rng.range(self.most_grams / 100 + 1, self.most_grams);
-        Post { kind: rng.range(1, 2) as u8, material, quantity, ..Post::default() }
+        Post::stock(rng.range(1, 2) as u8, material, quantity)
     }
 
     /// Kind 3, of a material in store.
@@ -89,20 +91,19 @@ impl Ledger {
         let most = self.store[material].min(MOST_GRAMS);
         let stage = rng.place(self.held.len()) as u8;
         let quantity = part(rng, most)?;
-        Some(Post { kind: 3, material: material as u8, stage, quantity, ..Post::default() })
+        Some(Post::issued(material as u8, stage, quantity))
     }
 
     /// Kind 4.
     pub fn formed(&self, rng: &mut Rng) -> Post {
-        let (stage, substance) = self.any_pair(rng);
-        let quantity = rng.size(self.most_grams.min(MOST_GRAMS) * WHOLE as u64);
-        Post { kind: 4, stage, substance, quantity, ..Post::default() }
+        let holding = self.any_holding(rng);
+        Post::formed(holding, rng.size(self.most_grams * WHOLE as u64))
     }
 
-    /// Kind 5 to 11, of a pair that holds something.
+    /// Kind 5 to 11, of a holding with something in it.
     pub fn left(&self, rng: &mut Rng) -> Option<Post> {
-        let (stage, substance) = self.holding_pair(rng)?;
-        let held = self.held(stage, substance);
+        let holding = self.filled(rng)?;
+        let held = self.held(holding);
         let content = match rng.below(4) {
             0 => WHOLE as u64,
             1 => rng.size(WHOLE as u64),
@@ -111,23 +112,27 @@ impl Ledger {
         let content = content.min(held);
         let quantity = part(rng, (held / content).min(MOST_GRAMS))?;
         let kind = rng.range(5, 11) as u8;
-        Some(Post { kind, stage, substance, content: content as u32, quantity, ..Post::default() })
+        Some(Post::left(kind, holding, content as u32, quantity))
     }
 
     /// Kind 12, with less and less of it until the holding has it.
     pub fn vapour(&self, rng: &mut Rng) -> Option<Post> {
-        let (stage, substance) = match rng.below(4) {
-            0 => self.any_pair(rng),
-            _ => self.holding_pair(rng)?,
+        let holding = match rng.below(4) {
+            0 => self.any_holding(rng),
+            _ => self.filled(rng)?,
         };
-        let number = self.numbers[substance as usize];
-        let form = if ROWS.contains(&number) { rng.range(1, 3) as u8 } else { 3 };
+        let number = self.numbers[holding.1 as usize];
+        let form = if ROWS.contains(&number) {
+            rng.range(1, 3) as u8
+        } else {
+            3
+        };
         let mut floats = RANGES[form as usize - 1].map(|range| within(rng, range));
         for _ in 0..200 {
             let [w, u, p, q] = floats.map(f64::to_bits);
             let loss = model::loss(form, number, w, u, p, q);
-            if loss.is_ok_and(|loss| loss <= self.held(stage, substance)) {
-                return Some(Post { kind: 12, material: form, stage, substance, floats: [w, u, p, q], ..Post::default() });
+            if loss.is_ok_and(|loss| loss <= self.held(holding)) {
+                return Some(Post::vapour(form, holding, [w, u, p, q]));
             }
             lessen(form, &mut floats);
         }
@@ -135,33 +140,35 @@ impl Ledger {
     }
 
     /// What a stage holds of a substance.
-    pub fn held(&self, stage: u8, substance: u8) -> u64 {
+    pub fn held(&self, (stage, substance): Holding) -> u64 {
         self.held[stage as usize][substance as usize]
     }
 
     /// Any stage and substance.
-    pub fn any_pair(&self, rng: &mut Rng) -> (u8, u8) {
-        (rng.place(self.held.len()) as u8, rng.place(self.numbers.len()) as u8)
+    pub fn any_holding(&self, rng: &mut Rng) -> Holding {
+        (
+            rng.place(self.held.len()) as u8,
+            rng.place(self.numbers.len()) as u8,
+        )
     }
 
     /// A stage and a substance that it holds.
-    pub fn holding_pair(&self, rng: &mut Rng) -> Option<(u8, u8)> {
-        let pair = |stage: usize| (0..self.numbers.len()).map(move |substance| (stage as u8, substance as u8));
-        let mut pairs: Vec<(u8, u8)> = (0..self.held.len()).flat_map(pair).collect();
-        pairs.retain(|&(stage, substance)| self.held(stage, substance) > 0);
-        if pairs.is_empty() {
-            return None;
-        }
-        Some(rng.pick(&pairs))
+    pub fn filled(&self, rng: &mut Rng) -> Option<Holding> {
+        let (stages, substances) = (self.held.len() as u8, self.numbers.len() as u8);
+        let all = (0..stages).flat_map(|stage| (0..substances).map(move |place| (stage, place)));
+        let filled: Vec<Holding> = all.filter(|&holding| self.held(holding) > 0).collect();
+        (!filled.is_empty()).then(|| rng.pick(&filled))
     }
 }
 
 /// Posts of kind 5 to 11 that take exactly so many micrograms, at most 2×10^15.
-pub fn exactly(kind: u8, stage: u8, substance: u8, micrograms: u64) -> Vec<Post> {
+pub fn exactly(kind: u8, holding: Holding, micrograms: u64) -> Vec<Post> {
     let whole = WHOLE as u64;
     let parts = [(WHOLE, micrograms / whole), (1, micrograms % whole)];
     let posts = parts.into_iter().filter(|&(_, quantity)| quantity > 0);
-    posts.map(|(content, quantity)| Post { kind, stage, substance, content, quantity, ..Post::default() }).collect()
+    posts
+        .map(|(content, quantity)| Post::left(kind, holding, content, quantity))
+        .collect()
 }
 
 /// A part of what there is, often all of it; none where there is nothing.

@@ -46,7 +46,12 @@ impl Site {
     pub fn any(rng: &mut Rng) -> Site {
         let (substances, materials) = (rng.range(1, 8), rng.range(1, 12));
         let stages = rng.range(1, 8);
-        Site::sized(rng, substances as usize, materials as usize, stages as usize)
+        Site::sized(
+            rng,
+            substances as usize,
+            materials as usize,
+            stages as usize,
+        )
     }
 
     /// A site with so many substances, materials and stages.
@@ -61,7 +66,9 @@ impl Site {
 
     /// The kind 1 block and the kind 2 blocks, sealed and numbered from 0.
     pub fn blocks(&self) -> Vec<Block> {
-        let stages = (0u8..).zip(&self.stages).map(|(place, stage)| stage.block(place));
+        let stages = (0u8..)
+            .zip(&self.stages)
+            .map(|(place, stage)| stage.block(place));
         [self.setup_block()].into_iter().chain(stages).collect()
     }
 
@@ -143,7 +150,10 @@ fn stage(rng: &mut Rng, substances: usize) -> Stage {
         water: rng.range(1, 2) as u8,
         residues: rng.range(1, 2) as u8,
         pairs: (0..substances)
-            .map(|_| Pair { side: rng.range(1, 2) as u8, rates: [(); 4].map(|()| rate(rng)) })
+            .map(|_| Pair {
+                side: rng.range(1, 2) as u8,
+                rates: [(); 4].map(|()| rate(rng)),
+            })
             .collect(),
     }
 }

@@ -51,19 +51,28 @@ impl Trial {
     /// Says the name and the seed.
     pub fn new(name: &'static str) -> Trial {
         let seed = setting("PRTR_SEED").unwrap_or(SEED);
-        say(&format!("{name}: PRTR_SEED={seed} PRTR_CASES={}", multiplier()));
-        Trial { name, seed, tally: Tally::default() }
+        say(&format!(
+            "{name}: PRTR_SEED={seed} PRTR_CASES={}",
+            multiplier()
+        ));
+        Trial {
+            name,
+            seed,
+            tally: Tally::default(),
+        }
     }
 
     /// The numbers for a case of a part, which depend on nothing before it.
     pub fn rng(&self, part: u64, case: u64) -> Rng {
-        let base = Rng::new(self.seed ^ part << 48).next();
+        let base = Rng::new(self.seed ^ part << 48).word();
         Rng::new(base.wrapping_add(case.wrapping_mul(0xd134_2543_de82_ef95)))
     }
 
     /// The numbers of each case of a part, the usual count times `PRTR_CASES`.
     pub fn cases(&self, part: u64, usual: u64) -> impl Iterator<Item = Rng> {
-        let rngs: Vec<Rng> = (0..usual * multiplier()).map(|case| self.rng(part, case)).collect();
+        let rngs: Vec<Rng> = (0..usual * multiplier())
+            .map(|case| self.rng(part, case))
+            .collect();
         rngs.into_iter()
     }
 
@@ -75,7 +84,11 @@ impl Trial {
             Err(fault) => [b"a fault of the call: ", fault.as_bytes()].concat(),
         };
         if let Some(path) = differ(self.name, journal, &text, &expected) {
-            panic!("{}: library and model differ, see {}", self.name, path.display());
+            panic!(
+                "{}: library and model differ, see {}",
+                self.name,
+                path.display()
+            );
         }
         self.count(journal, &text)
     }
@@ -100,17 +113,31 @@ impl Trial {
                 self.tally.filed += 1;
             }
         }
-        Answer { text: text.to_vec(), refused }
+        Answer {
+            text: text.to_vec(),
+            refused,
+        }
     }
 
     /// Says the counts.
     pub fn finish(&self) {
-        let Tally { journals, given, read, filed, declines } = &self.tally;
+        let Tally {
+            journals,
+            given,
+            read,
+            filed,
+            declines,
+        } = &self.tally;
         let mut line = format!(
             "{}: {journals} journals, {given} blocks given and {read} read, {filed} filed; declined",
             self.name
         );
-        for (number, count) in declines.iter().enumerate().skip(1).filter(|(_, &count)| count > 0) {
+        for (number, count) in declines
+            .iter()
+            .enumerate()
+            .skip(1)
+            .filter(|(_, &count)| count > 0)
+        {
             write!(line, " {number}:{count}").expect("a string takes all");
         }
         say(&line);
@@ -129,7 +156,11 @@ pub fn multiplier() -> u64 {
 
 fn setting(name: &str) -> Option<u64> {
     let text = env::var(name).ok()?;
-    Some(text.trim().parse().unwrap_or_else(|_| panic!("{name} is no whole number: {text}")))
+    Some(
+        text.trim()
+            .parse()
+            .unwrap_or_else(|_| panic!("{name} is no whole number: {text}")),
+    )
 }
 
 /// What the library writes, if it writes nothing else.

@@ -40,9 +40,18 @@ impl Year {
     pub fn open(rng: &mut Rng, site: Site, count: usize) -> Year {
         let most_grams = rng.pick(&[100_000, 10_000_000, 10_000_000, 100_000_000, 2_000_000_000]);
         let ledger = Ledger::new(&site, most_grams);
-        let mut year = Year { site, posts: Vec::new(), sizes: Vec::new(), ledger };
+        let mut year = Year {
+            site,
+            posts: Vec::new(),
+            sizes: Vec::new(),
+            ledger,
+        };
         for place in 0..count {
-            let post = if place < 4 { year.ledger.entered(rng) } else { year.ledger.any_post(rng) };
+            let post = if place < 4 {
+                year.ledger.entered(rng)
+            } else {
+                year.ledger.any_post(rng)
+            };
             year.add(post);
         }
         year.sizes = tens(count);
@@ -70,7 +79,10 @@ impl Year {
 
 /// Full blocks and what is left.
 pub fn tens(posts: usize) -> Vec<usize> {
-    (0..posts).step_by(MOST_POSTS).map(|from| MOST_POSTS.min(posts - from)).collect()
+    (0..posts)
+        .step_by(MOST_POSTS)
+        .map(|from| MOST_POSTS.min(posts - from))
+        .collect()
 }
 
 /// Blocks of ten, or of any size.

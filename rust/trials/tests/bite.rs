@@ -16,7 +16,12 @@ const YEARS: u64 = 400;
 
 /// Every removed part counts as destroyed.
 fn residue_as_destroyed(year: &mut Year) {
-    for pair in year.site.stages.iter_mut().flat_map(|stage| &mut stage.pairs) {
+    for pair in year
+        .site
+        .stages
+        .iter_mut()
+        .flat_map(|stage| &mut stage.pairs)
+    {
         pair.rates[1] = WHOLE;
         pair.rates[3] = WHOLE;
     }
@@ -24,31 +29,50 @@ fn residue_as_destroyed(year: &mut Year) {
 
 /// Residues go to landfill in place of off site, and back.
 fn residues_elsewhere(year: &mut Year) {
-    year.site.stages.iter_mut().for_each(|stage| stage.residues = 3 - stage.residues);
+    year.site
+        .stages
+        .iter_mut()
+        .for_each(|stage| stage.residues = 3 - stage.residues);
 }
 
 /// Treated water goes to the sewer in place of public water, and back.
 fn water_elsewhere(year: &mut Year) {
-    year.site.stages.iter_mut().for_each(|stage| stage.water = 3 - stage.water);
+    year.site
+        .stages
+        .iter_mut()
+        .for_each(|stage| stage.water = 3 - stage.water);
 }
 
 /// The close moves holdings to the other side.
 fn other_side(year: &mut Year) {
-    for pair in year.site.stages.iter_mut().flat_map(|stage| &mut stage.pairs) {
+    for pair in year
+        .site
+        .stages
+        .iter_mut()
+        .flat_map(|stage| &mut stage.pairs)
+    {
         pair.side = 3 - pair.side;
     }
 }
 
 /// Gas is treated by the rates of waste water, and back.
 fn other_rates(year: &mut Year) {
-    for pair in year.site.stages.iter_mut().flat_map(|stage| &mut stage.pairs) {
+    for pair in year
+        .site
+        .stages
+        .iter_mut()
+        .flat_map(|stage| &mut stage.pairs)
+    {
         pair.rates.rotate_left(2);
     }
 }
 
 /// The threshold is that of the other class, contents aside.
 fn other_class(year: &mut Year) {
-    year.site.classes.iter_mut().for_each(|class| *class = 3 - *class);
+    year.site
+        .classes
+        .iter_mut()
+        .for_each(|class| *class = 3 - *class);
 }
 
 /// A vapour is treated as gas is: its micrograms are posted by kind 10.
@@ -56,9 +80,12 @@ fn treated_vapour(year: &mut Year) {
     let numbers = year.site.numbers.clone();
     let lost = |post: &Post| {
         let [w, u, p, q] = post.floats;
-        model::loss(post.material, numbers[post.substance as usize], w, u, p, q).expect("a loss that was taken")
+        model::loss(post.material, numbers[post.substance as usize], w, u, p, q)
+            .expect("a loss that was taken")
     };
-    replace(year, 12, |post| exactly(10, post.stage, post.substance, lost(post)));
+    replace(year, 12, |post| {
+        exactly(10, (post.stage, post.substance), lost(post))
+    });
 }
 
 /// A block counts as its posts but for one that ships.
@@ -75,8 +102,8 @@ fn microgram_to_soil(year: &mut Year) {
         let amount = post.quantity * post.content as u64;
         let soil = if moved { 0 } else { 1 };
         moved = true;
-        let mut posts = exactly(5, post.stage, post.substance, amount - soil);
-        posts.extend(exactly(8, post.stage, post.substance, soil));
+        let mut posts = exactly(5, (post.stage, post.substance), amount - soil);
+        posts.extend(exactly(8, (post.stage, post.substance), soil));
         posts
     });
 }
@@ -84,7 +111,15 @@ fn microgram_to_soil(year: &mut Year) {
 /// Puts other posts in place of each of a kind.
 fn replace(year: &mut Year, kind: u8, mut other: impl FnMut(&Post) -> Vec<Post>) {
     let posts = year.posts.iter();
-    year.posts = posts.flat_map(|post| if post.kind == kind { other(post) } else { vec![*post] }).collect();
+    year.posts = posts
+        .flat_map(|post| {
+            if post.kind == kind {
+                other(post)
+            } else {
+                vec![*post]
+            }
+        })
+        .collect();
     year.sizes = tens(year.posts.len());
 }
 

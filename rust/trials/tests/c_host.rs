@@ -10,7 +10,12 @@ use trials::trial::say;
 fn compiler() -> Option<String> {
     let named = env::var("CC").ok();
     let usual = ["cc", "gcc", "clang"].map(String::from);
-    let answers = |name: &String| Command::new(name).arg("--version").output().is_ok_and(|out| out.status.success());
+    let answers = |name: &String| {
+        Command::new(name)
+            .arg("--version")
+            .output()
+            .is_ok_and(|out| out.status.success())
+    };
     named.into_iter().chain(usual).find(answers)
 }
 
@@ -19,7 +24,16 @@ fn compile(compiler: &str) -> PathBuf {
     let package = Path::new(env!("CARGO_MANIFEST_DIR"));
     let program = Path::new(env!("CARGO_TARGET_TMPDIR")).join("figures");
     let out = Command::new(compiler)
-        .args(["-std=c11", "-O2", "-Wall", "-Wextra", "-Wpedantic", "-Wstrict-prototypes", "-Werror", "-I"])
+        .args([
+            "-std=c11",
+            "-O2",
+            "-Wall",
+            "-Wextra",
+            "-Wpedantic",
+            "-Wstrict-prototypes",
+            "-Werror",
+            "-I",
+        ])
         .arg(package.join("../../include"))
         .arg(package.join("tests/c/figures.c"))
         .arg(env!("PRTR_ARCHIVE"))
@@ -27,7 +41,11 @@ fn compile(compiler: &str) -> PathBuf {
         .arg(&program)
         .output()
         .expect("the compiler runs");
-    assert!(out.status.success(), "{}", String::from_utf8_lossy(&out.stderr));
+    assert!(
+        out.status.success(),
+        "{}",
+        String::from_utf8_lossy(&out.stderr)
+    );
     program
 }
 
@@ -37,7 +55,12 @@ fn c_prints_the_papers_figures() {
         say("skipped: there is no C compiler (cc, gcc or clang), and CC names none");
         return;
     };
-    let out = Command::new(compile(&compiler)).output().expect("the program runs");
+    let out = Command::new(compile(&compiler))
+        .output()
+        .expect("the program runs");
     assert!(out.status.success());
-    assert_eq!(String::from_utf8_lossy(&out.stdout), include_str!("c/figures.txt"));
+    assert_eq!(
+        String::from_utf8_lossy(&out.stdout),
+        include_str!("c/figures.txt")
+    );
 }

@@ -1,7 +1,12 @@
 //! Each rule of the layout broken alone, with the number that document 01 gives; two rules at once; and every byte.
 
+use std::ops::RangeInclusive;
+
 use trials::floats::{edges, RANGES, SPECIALS};
-use trials::layout::{frame, posts_block, put_sums, seal, sums, Block, Post, BODY, MODULUS, POST, SUMS};
+use trials::layout::{
+    frame, posts_block, put_sums, seal, sums, Block, Post, BODY, MODULUS, POST, SUMS,
+};
+use trials::ledger::{MOST_GRAMS, MOST_MICROGRAMS};
 use trials::rng::Rng;
 use trials::site::{Pair, Site, Stage};
 use trials::trial::Trial;
@@ -15,35 +20,60 @@ struct Rule {
     number: u8,
 }
 
+/// The usual floats of each form, in their ranges.
+const USUAL: [[f64; 4]; 3] = [
+    [14.0, 0.62, 36_000.0, 0.0],
+    [2_000.0, 1_550.0, 98_100.0, 1.0],
+    [1_500.0, 0.0027, 1_420.0, 0.0034],
+];
+
 fn rule(name: &str, block: usize, offset: usize, bytes: impl AsRef<[u8]>, number: u8) -> Rule {
-    Rule { name: name.into(), block, offset, bytes: bytes.as_ref().to_vec(), number }
+    Rule {
+        name: name.into(),
+        block,
+        offset,
+        bytes: bytes.as_ref().to_vec(),
+        number,
+    }
 }
 
 /// Three substances, the last without a coefficient row, two materials and two stages.
 fn site() -> Site {
-    let pair = |side| Pair { side, rates: [900_000, 800_000, 700_000, 600_000] };
+    let pair = |side| Pair {
+        side,
+        rates: [900_000, 800_000, 700_000, 600_000],
+    };
     Site {
         numbers: vec![80, 300, 500],
         classes: vec![1, 2, 1],
         contents: vec![vec![400_000, 300_000, 300_000], vec![0, 500_000, 9_999]],
         stages: vec![
-            Stage { water: 1, residues: 1, pairs: vec![pair(1), pair(2), pair(1)] },
-            Stage { water: 2, residues: 2, pairs: vec![pair(2), pair(1), pair(2)] },
+            Stage {
+                water: 1,
+                residues: 1,
+                pairs: vec![pair(1), pair(2), pair(1)],
+            },
+            Stage {
+                water: 2,
+                residues: 2,
+                pairs: vec![pair(2), pair(1), pair(2)],
+            },
         ],
     }
 }
 
 /// One post of each kind in order, each taken by a book of the site.
 fn posts() -> Vec<Post> {
-    let stock = Post { kind: 1, material: 1, quantity: 9_000_000, ..Post::default() };
-    let issued = Post { kind: 3, stage: 1, quantity: 8_000_000, ..stock };
-    let formed = Post { kind: 4, material: 0, stage: 1, substance: 1, quantity: 70_000_000_000, ..stock };
-    let left = |kind| Post { kind, content: 600_000, quantity: 100_000, ..formed };
-    let floats = [2_000f64, 1_550.0, 98_100.0, 1.0].map(f64::to_bits);
-    let vapour = Post { kind: 12, material: 2, quantity: 0, floats, ..formed };
-    let mut posts = vec![stock, Post { kind: 2, ..stock }, issued, formed];
-    posts.extend((5..=11).map(left));
-    posts.extend([vapour, Post::CLOSE]);
+    let holding = (1, 1);
+    let mut posts = vec![
+        Post::stock(1, 1, 9_000_000),
+        Post::stock(2, 1, 9_000_000),
+        Post::issued(1, 1, 8_000_000),
+        Post::formed(holding, 70_000_000_000),
+    ];
+    posts.extend((5..=11).map(|kind| Post::left(kind, holding, 600_000, 100_000)));
+    posts.push(Post::vapour(2, holding, USUAL[1].map(f64::to_bits)));
+    posts.push(Post::CLOSE);
     posts
 }
 
@@ -64,7 +94,13 @@ fn frame_rules() -> Vec<Rule> {
             rule("last letter", block, 3, [0], 1),
             rule("kind 0", block, 4, [0], 3),
             rule("kind 4", block, 4, [4], 3),
-            rule("number too high", block, 6, (block as u16 + 1).to_le_bytes(), 3),
+            rule(
+                "number too high",
+                block,
+                6,
+                (block as u16 + 1).to_le_bytes(),
+                3,
+            ),
             rule("number with a high byte", block, 7, [1], 3),
             rule("last byte of the body", block, SUMS - 1, [1], 6),
         ]
@@ -72,8 +108,8 @@ fn frame_rules() -> Vec<Rule> {
     (0..5).flat_map(of_block).collect()
 }
 
+/// The rules of the counts, numbers and classes of a set-up.
 fn setup_rules() -> Vec<Rule> {
-    let content = |place: usize| 34 + 4 * place;
     vec![
         rule("no substance", 0, 5, [0], 6),
         rule("fewer substances than named", 0, 5, [2], 6),
@@ -93,13 +129,20 @@ fn setup_rules() -> Vec<Rule> {
         rule("class 0", 0, 26, [0], 6),
         rule("class 3", 0, 28, [3], 6),
         rule("unused class", 0, 29, [1], 6),
-        rule("contents over the whole", 0, content(0), 400_001u32.to_le_bytes(), 6),
-        rule("second contents over the whole", 0, content(8), 490_002u32.to_le_bytes(), 6),
-        rule("contents past 32 bits", 0, content(8), [0, 0, 0, 128, 0, 0, 0, 128], 6),
-        rule("content of an unused substance", 0, content(3), [1], 6),
-        rule("content of an unused material", 0, content(16), [1], 6),
-        rule("last content", 0, content(95), [1], 6),
         rule("behind the contents", 0, 418, [1], 6),
+    ]
+}
+
+/// The rules of a set-up's contents, by their places.
+fn content_rules() -> Vec<Rule> {
+    let content = |name, place: usize, bytes: &[u8]| rule(name, 0, 34 + 4 * place, bytes, 6);
+    vec![
+        content("over the whole", 0, &400_001u32.to_le_bytes()),
+        content("second over the whole", 8, &490_002u32.to_le_bytes()),
+        content("sum past 32 bits", 8, &[0, 0, 0, 128, 0, 0, 0, 128]),
+        content("unused substance", 3, &[1]),
+        content("unused material", 16, &[1]),
+        content("last content", 95, &[1]),
     ]
 }
 
@@ -107,7 +150,13 @@ fn setup_rules() -> Vec<Rule> {
 fn stage_rules() -> Vec<Rule> {
     let rate = |block, pair: usize, rate: usize| {
         let offset = BODY + 2 + 17 * pair + 1 + 4 * rate;
-        rule(&format!("rate {rate} of pair {pair}"), block, offset, 1_000_001u32.to_le_bytes(), 6)
+        rule(
+            &format!("rate {rate} of pair {pair}"),
+            block,
+            offset,
+            1_000_001u32.to_le_bytes(),
+            6,
+        )
     };
     let of_block = |block: usize| {
         let mut rules = vec![
@@ -141,48 +190,56 @@ fn count_rules() -> Vec<Rule> {
     ]
 }
 
-/// Every field of every kind of post, with a value that the kind doesn't take.
-fn post_rules() -> Vec<Rule> {
-    let grams = 2_000_000_001u64.to_le_bytes();
-    let micrograms = 2_000_000_000_000_001u64.to_le_bytes();
-    let of_kind = |place: usize| {
-        let kind = place + 1;
-        let (block, at) = (3 + place / 10, BODY + POST * (place % 10));
-        let add = |field: &str, offset: usize, bytes: &[u8], number| {
-            rule(&format!("{field} of kind {kind}"), block, at + offset, bytes, number)
-        };
-        let material = match kind {
-            1..=3 => 2,
-            12 => 4,
-            _ => 1,
-        };
-        let stage: u8 = if (3..=12).contains(&kind) { 2 } else { 1 };
-        let substance: u8 = if (4..=12).contains(&kind) { 3 } else { 1 };
-        let content: u32 = if (5..=11).contains(&kind) { 1_000_001 } else { 1 };
-        let quantity = match kind {
-            4 => micrograms,
-            12 | 13 => 1u64.to_le_bytes(),
-            _ => grams,
-        };
-        let mut rules = vec![
-            add("kind", 0, &[if kind == 13 { 14 } else { 0 }], 6),
-            add("material", 1, &[material], 6),
-            add("stage", 2, &[stage], 6),
-            add("substance", 3, &[substance], 6),
-            add("content", 4, &content.to_le_bytes(), 6),
-            add("quantity", 8, &quantity, 6),
-        ];
-        let floats = ["w", "u", "p", "q"].into_iter().enumerate();
-        rules.extend(floats.map(|(place, name)| add(name, 16 + 8 * place, &[255; 8], 7)));
-        if (5..=11).contains(&kind) {
-            rules.push(add("no content", 4, &[0; 4], 6));
-        }
-        if kind < 12 {
-            rules.push(add("no quantity", 8, &[0; 8], 6));
-        }
-        rules
+/// A material, stage, substance, content and quantity that a kind of post doesn't take, each at its offset.
+fn wrong_fields(kind: usize) -> [(&'static str, usize, Vec<u8>); 6] {
+    let used =
+        |kinds: RangeInclusive<usize>, beyond: u8| if kinds.contains(&kind) { beyond } else { 1 };
+    let material = if kind == 12 { 4 } else { used(1..=3, 2) };
+    let content: u32 = if (5..=11).contains(&kind) {
+        1_000_001
+    } else {
+        1
     };
-    (0..13).flat_map(of_kind).collect()
+    let quantity: u64 = match kind {
+        4 => MOST_MICROGRAMS + 1,
+        12 | 13 => 1,
+        _ => MOST_GRAMS + 1,
+    };
+    [
+        ("kind", 0, vec![if kind == 13 { 14 } else { 0 }]),
+        ("material", 1, vec![material]),
+        ("stage", 2, vec![used(3..=12, 2)]),
+        ("substance", 3, vec![used(4..=12, 3)]),
+        ("content", 4, content.to_le_bytes().to_vec()),
+        ("quantity", 8, quantity.to_le_bytes().to_vec()),
+    ]
+}
+
+/// Every field of the post at a place, whose kind is one more, with a value that the kind doesn't take.
+fn rules_of_post(place: usize) -> Vec<Rule> {
+    let kind = place + 1;
+    let (block, at) = (3 + place / 10, BODY + POST * (place % 10));
+    let field = |name: &str, offset: usize, bytes: &[u8], number| {
+        let name = format!("{name} of kind {kind}");
+        rule(&name, block, at + offset, bytes, number)
+    };
+    let wrong = wrong_fields(kind);
+    let mut rules: Vec<Rule> = wrong
+        .iter()
+        .map(|(name, offset, bytes)| field(name, *offset, bytes, 6))
+        .collect();
+    rules.extend((0..4).map(|place| field("float", 16 + 8 * place, &[255; 8], 7)));
+    if (5..=11).contains(&kind) {
+        rules.push(field("no content", 4, &[0; 4], 6));
+    }
+    if kind < 12 {
+        rules.push(field("no quantity", 8, &[0; 8], 6));
+    }
+    rules
+}
+
+fn post_rules() -> Vec<Rule> {
+    (0..13).flat_map(rules_of_post).collect()
 }
 
 /// Faults of vapour posts and of balance.
@@ -193,16 +250,36 @@ fn late_rules() -> Vec<Rule> {
         rule("no coefficient row", 4, vapour + 3, [2], 8),
         rule("great volume", 4, vapour + 16, 1e9f64.to_le_bytes(), 9),
         rule("the other stage holds nothing", 4, vapour + 2, [0], 11),
-        rule("more issued than is in store", 3, BODY + 2 * POST + 8, 18_000_001u64.to_le_bytes(), 11),
-        rule("the other material isn't in store", 3, BODY + 2 * POST + 1, [0], 11),
+        rule(
+            "more issued than is in store",
+            3,
+            BODY + 2 * POST + 8,
+            18_000_001u64.to_le_bytes(),
+            11,
+        ),
+        rule(
+            "the other material isn't in store",
+            3,
+            BODY + 2 * POST + 1,
+            [0],
+            11,
+        ),
     ]
 }
 
 fn rules() -> Vec<Rule> {
-    [frame_rules(), setup_rules(), stage_rules(), count_rules(), post_rules(), late_rules()]
-        .into_iter()
-        .flatten()
-        .collect()
+    [
+        frame_rules(),
+        setup_rules(),
+        content_rules(),
+        stage_rules(),
+        count_rules(),
+        post_rules(),
+        late_rules(),
+    ]
+    .into_iter()
+    .flatten()
+    .collect()
 }
 
 fn break_rule(blocks: &mut [Block], rule: &Rule) {
@@ -214,12 +291,21 @@ fn break_rule(blocks: &mut [Block], rule: &Rule) {
 #[test]
 fn each_rule_alone() {
     let mut trial = Trial::new("rules alone");
-    assert!(trial.give_blocks(&journal()).refused.is_none(), "the unbroken journal was refused");
+    assert!(
+        trial.give_blocks(&journal()).refused.is_none(),
+        "the unbroken journal was refused"
+    );
     for rule in rules() {
         let mut blocks = journal();
         break_rule(&mut blocks, &rule);
         let refused = trial.give_blocks(&blocks).refused;
-        assert_eq!(refused, Some((rule.block as u64, rule.number)), "{}, block {}", rule.name, rule.block);
+        assert_eq!(
+            refused,
+            Some((rule.block as u64, rule.number)),
+            "{}, block {}",
+            rule.name,
+            rule.block
+        );
     }
     trial.finish();
 }
@@ -246,7 +332,16 @@ fn every_byte() {
     for block in 0..base.len() {
         for offset in 0..SUMS {
             let byte = base[block][offset];
-            for value in [0, 1, 2, 255, byte.wrapping_add(1), byte.wrapping_sub(1), byte ^ 16, byte ^ 128] {
+            for value in [
+                0,
+                1,
+                2,
+                255,
+                byte.wrapping_add(1),
+                byte.wrapping_sub(1),
+                byte ^ 16,
+                byte ^ 128,
+            ] {
                 let mut blocks = base.clone();
                 blocks[block][offset] = value;
                 trial.give_blocks(&blocks);
@@ -257,10 +352,6 @@ fn every_byte() {
     }
     trial.finish();
 }
-
-/// The usual floats of each form, in their ranges.
-const USUAL: [[f64; 4]; 3] =
-    [[14.0, 0.62, 36_000.0, 0.0], [2_000.0, 1_550.0, 98_100.0, 1.0], [1_500.0, 0.0027, 1_420.0, 0.0034]];
 
 #[test]
 fn vapour_floats() {
@@ -276,7 +367,11 @@ fn vapour_floats() {
                 blocks[4] = posts_block(4, &posts[10..]);
                 let refused = trial.give_blocks(&blocks).refused;
                 let within = (range.0..=range.1).contains(&f64::from_bits(bits));
-                assert_eq!(refused == Some((4, 7)), !within, "form {form}, place {place}, {bits:016x}");
+                assert_eq!(
+                    refused == Some((4, 7)),
+                    !within,
+                    "form {form}, place {place}, {bits:016x}"
+                );
             }
         }
     }
@@ -295,7 +390,12 @@ fn unused_floats() {
             blocks[4] = posts_block(4, &posts[10..]);
             let refused = trial.give_blocks(&blocks).refused;
             let expected = (bits << 1 != 0).then_some((3 + place as u64 / 10, 7));
-            assert_eq!(refused, expected, "kind {}, float {float}, {bits:016x}", place + 1);
+            assert_eq!(
+                refused,
+                expected,
+                "kind {}, float {float}, {bits:016x}",
+                place + 1
+            );
         }
     }
     trial.finish();
@@ -309,7 +409,14 @@ fn empty(kind: u8, count: u8, number: u16) -> Block {
 }
 
 /// What a set-up, a stage and an empty block of posts get, after so many blocks of the journal were taken.
-const TURNS: [[u8; 3]; 6] = [[6, 4, 4], [4, 6, 4], [4, 6, 4], [4, 4, 6], [4, 4, 6], [4, 4, 5]];
+const TURNS: [[u8; 3]; 6] = [
+    [6, 4, 4],
+    [4, 6, 4],
+    [4, 6, 4],
+    [4, 4, 6],
+    [4, 4, 6],
+    [4, 4, 5],
+];
 
 #[test]
 fn turns() {
@@ -321,7 +428,12 @@ fn turns() {
                 let mut blocks = journal()[..taken].to_vec();
                 blocks.push(empty(kind.0, kind.1, taken as u16 + off));
                 let refused = trial.give_blocks(&blocks).refused;
-                assert_eq!(refused, Some((taken as u64, number)), "kind {} after {taken}", kind.0);
+                assert_eq!(
+                    refused,
+                    Some((taken as u64, number)),
+                    "kind {} after {taken}",
+                    kind.0
+                );
             }
         }
     }
@@ -331,9 +443,10 @@ fn turns() {
 /// Junk behind the tag, altered until one of its check sums would fit in 16 bits unreduced.
 fn junk(rng: &mut Rng, which: usize) -> Block {
     let mut block = frame(0, 0, 0);
-    block[4..SUMS].fill_with(|| rng.next() as u8);
-    while sums(&block)[which] > u16::MAX - MODULUS as u16 || (which == 0 && plain(&block) < MODULUS) {
-        block[rng.range(4, SUMS as u64 - 1) as usize] = rng.next() as u8;
+    block[4..SUMS].fill_with(|| rng.word() as u8);
+    while sums(&block)[which] > u16::MAX - MODULUS as u16 || (which == 0 && plain(&block) < MODULUS)
+    {
+        block[rng.range(4, SUMS as u64 - 1) as usize] = rng.word() as u8;
     }
     block
 }
@@ -351,10 +464,18 @@ fn unreduced_sums() {
             let mut block = junk(&mut rng, which);
             let mut stored = sums(&block);
             put_sums(&mut block, stored);
-            assert_ne!(trial.give_blocks(&[block]).refused, Some((0, 2)), "reduced sums are right");
+            assert_ne!(
+                trial.give_blocks(&[block]).refused,
+                Some((0, 2)),
+                "reduced sums are right"
+            );
             stored[which] += MODULUS as u16;
             put_sums(&mut block, stored);
-            assert_eq!(trial.give_blocks(&[block]).refused, Some((0, 2)), "sum {which} is not reduced");
+            assert_eq!(
+                trial.give_blocks(&[block]).refused,
+                Some((0, 2)),
+                "sum {which} is not reduced"
+            );
         }
     }
     trial.finish();

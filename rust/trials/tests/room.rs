@@ -2,6 +2,7 @@
 
 use prtr::ROOM;
 use trials::layout::{Post, MOST_POSTS};
+use trials::ledger::{MOST_GRAMS, MOST_MICROGRAMS};
 use trials::rng::Rng;
 use trials::site::{Pair, Site, Stage};
 use trials::trial::Trial;
@@ -14,7 +15,10 @@ fn too_little_room_is_left_alone() {
         for room in (0..ROOM).step_by(89).chain([1, 12, 56, ROOM - 1]) {
             let mut out = vec![0xc3; room];
             assert_eq!(prtr::filing_into(journal, &mut out), None);
-            assert!(out.iter().all(|&byte| byte == 0xc3), "room {room} was written to");
+            assert!(
+                out.iter().all(|&byte| byte == 0xc3),
+                "room {room} was written to"
+            );
         }
     }
 }
@@ -36,12 +40,19 @@ fn enough_room_holds_the_text_and_the_rest_stays() {
 
 #[test]
 fn no_bytes_print_the_title() {
-    assert_eq!(prtr::filing(&[]), "substance handled due air water soil land sewer offsite\n");
+    assert_eq!(
+        prtr::filing(&[]),
+        "substance handled due air water soil land sewer offsite\n"
+    );
 }
 
 /// Eight substances with long numbers, and two stages that send water and residues to all four headings.
 fn great_site(rates: [u32; 4]) -> Site {
-    let stage = |place: u8| Stage { water: place, residues: place, pairs: vec![Pair { side: place, rates }; 8] };
+    let stage = |place: u8| Stage {
+        water: place,
+        residues: place,
+        pairs: vec![Pair { side: place, rates }; 8],
+    };
     Site {
         numbers: (65_528..=65_535).collect(),
         classes: vec![1, 2, 1, 2, 1, 2, 1, 2],
@@ -56,11 +67,12 @@ fn great_year(rates: [u32; 4], spread: usize, leaving: bool) -> Year {
     let mut rng = Rng::new(spread as u64);
     let mut year = Year::open(&mut rng, site, 0);
     for place in 0..4_000 {
-        let (stage, substance) = ((place / 2 % 2) as u8, (place / 4 % spread) as u8);
-        let formed = Post { kind: 4, stage, substance, quantity: 2_000_000_000_000_000, ..Post::default() };
+        let holding = ((place / 2 % 2) as u8, (place / 4 % spread) as u8);
         let kind = 6 + (place / 8 % 6) as u8;
-        let left = Post { kind, content: 1_000_000, quantity: 2_000_000_000, ..formed };
-        year.add(if leaving && place % 2 == 1 { left } else { formed });
+        year.add(match leaving && place % 2 == 1 {
+            true => Post::left(kind, holding, 1_000_000, MOST_GRAMS),
+            false => Post::formed(holding, MOST_MICROGRAMS),
+        });
     }
     year.posts.push(Post::CLOSE);
     year.sizes = tens(4_000);
@@ -72,7 +84,12 @@ fn great_year(rates: [u32; 4], spread: usize, leaving: bool) -> Year {
 #[test]
 fn the_greatest_years() {
     let mut trial = Trial::new("greatest years");
-    let rates = [[0; 4], [1_000_000; 4], [999_999, 999_999, 999_999, 999_999], [500_000, 1, 1, 500_000]];
+    let rates = [
+        [0; 4],
+        [1_000_000; 4],
+        [999_999, 999_999, 999_999, 999_999],
+        [500_000, 1, 1, 500_000],
+    ];
     for rates in rates {
         for (spread, leaving) in [(1, false), (1, true), (8, false), (8, true)] {
             let answer = trial.give_blocks(&great_year(rates, spread, leaving).blocks());
