@@ -1,0 +1,118 @@
+/*
+ * The site book behind a yearly PRTR return: what a plant released and
+ * transferred of each listed substance. C11, over the archive libprtr.a.
+ *
+ * Units: material in grams, content in parts per million by mass (ppm),
+ * substance in micrograms. A substance has a management number and a class:
+ * 1 (class one) or 2 (specific class one).
+ *
+ * Every function ends, keeps nothing between calls and may be called from
+ * several threads at once. It answers for every number and every byte it is
+ * given; what is outside the limits is declined by a number, PRTR_LAYOUT and
+ * so on, and then nothing that a pointer names is altered.
+ *
+ * What a host owes: each pointer is valid, aligned and not null for the whole
+ * call, also where its length is 0, and what two pointers of one call name
+ * doesn't overlap.
+ */
+#ifndef PRTR_H
+#define PRTR_H
+
+#include <stddef.h>
+#include <stdint.h>
+
+#ifdef __cplusplus
+extern "C" {
+#endif
+
+/* Why a call is declined, in checking order. */
+#define PRTR_NOT_A_BLOCK 1   /* a block isn't 512 bytes or lacks "PRTR" */
+#define PRTR_CHECK_SUM 2     /* a check sum differs */
+#define PRTR_NOT_NEXT 3      /* a block's kind isn't 1 to 3, or its number isn't the next */
+#define PRTR_OUT_OF_TURN 4   /* a set-up block out of its turn, or posts before the set-up is whole */
+#define PRTR_CLOSED 5        /* the book is closed */
+#define PRTR_LAYOUT 6        /* a length, kind, form, index, count, limit, order or zero place */
+#define PRTR_FLOAT 7         /* a float isn't finite or is outside its range */
+#define PRTR_NO_ROW 8        /* form 1 or 2 of a substance without a coefficient row */
+#define PRTR_LOSS_LIMIT 9    /* a vapour loss above 2,000,000 kg */
+#define PRTR_FULL 10         /* 4,000 posts are accepted and this isn't the close */
+#define PRTR_SHORT 11        /* a store or holding is less than what leaves it */
+#define PRTR_NO_SUBSTANCE 12 /* a report names a substance that the book hasn't */
+
+/* The longest text that prtr_filing writes, in bytes. */
+#define PRTR_ROOM 1336
+
+/*
+ * A material's content of a substance as it counts for the return: from
+ * 10,000 ppm in class 1 and from 1,000 ppm in class 2 as it is, and else 0.
+ * Answers 0 and sets *counted. Declines a class other than 1 and 2 and more
+ * than 1,000,000 ppm by PRTR_LAYOUT, and *counted is as before.
+ */
+uint8_t prtr_counted(uint8_t class_, uint32_t ppm, uint32_t *counted);
+
+/*
+ * What treatment makes of a year's total of one stage and substance, in
+ * micrograms, with the rates of removal and destruction in ppm. Of the total,
+ * removed is total x removal / 10^6 rounded down, and of that, destroyed is
+ * removed x destruction / 10^6 rounded down; released and residue are the
+ * rests, so that the three parts add up to the total.
+ * Answers 0 and sets all three. Declines a rate above 1,000,000 ppm by
+ * PRTR_LAYOUT, and all three are as before. The total may be any number.
+ */
+uint8_t prtr_split(uint64_t total, uint32_t removal, uint32_t destruction,
+                   uint64_t *released, uint64_t *destroyed, uint64_t *residue);
+
+/*
+ * The step that the amount of a heading is rounded to, in micrograms: 10^8
+ * (0.1 kg) below 10^10, and else a tenth of the largest power of ten that is
+ * not above the amount.
+ */
+uint64_t prtr_step(uint64_t amount);
+
+/* The filed figure of a heading, in micrograms: its exact amount rounded half up to the amount's step. */
+uint64_t prtr_figure(uint64_t amount);
+
+/*
+ * Whether a substance must be filed that was handled to so many micrograms:
+ * from 10^12 (1 t) in class 1, from 5 x 10^11 (0.5 t) in class 2.
+ * Answers 0 and sets *due to 1 or 0. Declines a class other than 1 and 2 by
+ * PRTR_LAYOUT, and *due is as before.
+ */
+uint8_t prtr_due(uint8_t class_, uint64_t handled, uint8_t *due);
+
+/*
+ * A vapour loss in whole micrograms. number is the substance's management
+ * number; w, u, p and q are doubles by their bits (memcpy them), by form:
+ *
+ * 1 floating roof: w diameter in m, 1 to 1,000; u content in weight percent,
+ *   0 to 100; p kL drawn, 0 to 10^9; q is zero.
+ * 2 filling a fixed roof: w m3, 0 to 10^9; u partial pressure in Pa, 0 to
+ *   10^9; p tank pressure in Pa, 1 to 10^9; q share that escapes, 0 to 1.
+ * 3 station: w and p kL received and dispensed, u and q kg per kL, each 0 to
+ *   10^9.
+ *
+ * Answers 0 and sets *micrograms. Else declines by the first that applies,
+ * and *micrograms is as before: PRTR_LAYOUT for another form or for number 0,
+ * PRTR_FLOAT, PRTR_NO_ROW (forms 1 and 2 know the numbers 53, 80, 300, 392
+ * and 400), PRTR_LOSS_LIMIT.
+ */
+uint8_t prtr_loss(uint8_t form, uint16_t number, uint64_t w, uint64_t u,
+                  uint64_t p, uint64_t q, uint64_t *micrograms);
+
+/*
+ * The return of a journal, a row of blocks of 512 bytes: the text, in ASCII,
+ * of the title and of one line for each substance, or of the one line
+ * "refused", the block's place from 0 and the number of its decline.
+ *
+ * The text is put at the start of out and its length is the answer, which is
+ * never 0; the bytes of out behind the text stay as they were. Where room is
+ * less than PRTR_ROOM the answer is 0 and all of out stays as it was,
+ * however short the text would have been. There is no byte 0 at the end.
+ */
+size_t prtr_filing(const uint8_t *journal, size_t length, uint8_t *out, size_t room);
+
+#ifdef __cplusplus
+}
+#endif
+
+#endif

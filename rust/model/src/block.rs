@@ -1,0 +1,54 @@
+//! The frame of a journal block, and the reading of stored numbers.
+
+use crate::decline::{CHECK_SUM, NO_BLOCK};
+
+/// "A block is 512 bytes."
+pub(crate) const SIZE: usize = 512;
+/// "8–507 body."
+pub(crate) const BODY: usize = 8;
+/// Where the body ends and the check sums start.
+pub(crate) const SUMS: usize = 508;
+
+pub(crate) type Block = [u8; SIZE];
+
+/// Passes the bytes of a block through declines 1 and 2.
+pub(crate) fn open(bytes: &[u8]) -> Result<&Block, u8> {
+    let block: &Block = bytes.try_into().map_err(|_| NO_BLOCK)?;
+    if !block.starts_with(b"PRTR") {
+        return Err(NO_BLOCK);
+    }
+    if sums(block) != (u32::from(u16_at(block, 508)), u32::from(u16_at(block, 510))) {
+        return Err(CHECK_SUM);
+    }
+    Ok(block)
+}
+
+/// "The sum of bytes 0–507 modulo 65,521" and "the sum, over the same bytes, of each byte times
+/// (its offset + 1), modulo 65,521". The larger stays below 33 million before its remainder.
+fn sums(block: &Block) -> (u32, u32) {
+    let (mut plain, mut weighted) = (0u32, 0u32);
+    for (byte, weight) in block[..SUMS].iter().zip(1u16..) {
+        plain += u32::from(*byte);
+        weighted += u32::from(*byte) * u32::from(weight);
+    }
+    (plain % 65_521, weighted % 65_521)
+}
+
+/// "Bytes not named are zero": of the body, those from `from` on.
+pub(crate) fn zero_from(block: &Block, from: usize) -> bool {
+    block[from..SUMS].iter().all(|byte| *byte == 0)
+}
+
+// "Stored numbers are little-endian."
+
+pub(crate) fn u16_at(bytes: &[u8], at: usize) -> u16 {
+    u16::from_le_bytes([bytes[at], bytes[at + 1]])
+}
+
+pub(crate) fn u32_at(bytes: &[u8], at: usize) -> u32 {
+    u32::from_le_bytes(bytes[at..at + 4].try_into().expect("four bytes"))
+}
+
+pub(crate) fn u64_at(bytes: &[u8], at: usize) -> u64 {
+    u64::from_le_bytes(bytes[at..at + 8].try_into().expect("eight bytes"))
+}

@@ -1,0 +1,235 @@
+//! The book: set up by blocks of kinds 1 and 2, then grown by posts, in place.
+
+use crate::block::{self, u16_at, zero_from, Block, BODY};
+use crate::decline::{CLOSED, FULL, LAYOUT, NOT_NEXT, SHORT, TURN};
+use crate::post::{self, Exit, Move, Pair};
+use crate::setup::{Plan, Stage, MATERIALS, STAGES, SUBSTANCES};
+
+/// "4,000 posts are accepted and this isn't the close."
+const MOST_POSTS: u32 = 4_000;
+/// "Count: posts, 1–10."
+const POSTS_IN_BLOCK: usize = 10;
+
+/// One site's book for one year. No sum can overflow: each of at most 4,000 posts moves at most
+/// 2×10^15 micrograms of a substance.
+#[derive(Debug, Clone, Default, PartialEq, Eq)]
+pub struct Book {
+    pub(crate) plan: Plan,
+    pub(crate) stages: [Stage; STAGES],
+    /// Stages described so far.
+    described: usize,
+    blocks: u16,
+    pub(crate) posts: u32,
+    closed: bool,
+    /// Grams of each material in store.
+    pub(crate) stores: [u64; MATERIALS],
+    /// "Handled is issued plus formed", for each substance.
+    pub(crate) handled: [u64; SUBSTANCES],
+    /// One account for each stage and substance.
+    pub(crate) accounts: [[Account; SUBSTANCES]; STAGES],
+}
+
+/// What a stage has of a substance, and where the rest went, in micrograms.
+#[derive(Debug, Clone, Copy, Default, PartialEq, Eq)]
+pub(crate) struct Account {
+    pub(crate) held: u64,
+    /// What the close moved to gas or waste water, "by that pair's side".
+    pub(crate) moved: u64,
+    /// One total for each of the eight exits.
+    exits: [u64; 8],
+}
+
+impl Account {
+    pub(crate) fn exit(&self, exit: Exit) -> u64 {
+        self.exits[exit as usize]
+    }
+}
+
+impl Book {
+    /// "A fresh book, which is as made: no set-up, no substance, no post, block number 0."
+    pub fn new() -> Book {
+        Book::default()
+    }
+
+    /// "The book has the substances of the accepted kind 1 block, and none before it."
+    pub fn substances(&self) -> usize {
+        self.plan.substances
+    }
+
+    /// Blocks accepted so far. It stays small: nine of set-up, and a post at least in each other.
+    pub fn blocks(&self) -> u16 {
+        self.blocks
+    }
+
+    /// "A single post is tried from decline 4 on and doesn't alter the block number."
+    pub fn post(&mut self, bytes: &[u8]) -> Result<(), u8> {
+        self.ready()?;
+        self.take(bytes).map(drop)
+    }
+
+    /// "A decline returns its number and the book given in."
+    pub fn block(&mut self, bytes: &[u8]) -> Result<(), u8> {
+        let block = block::open(bytes)?;
+        let kind = block[4];
+        if !(1..=3).contains(&kind) || u16_at(block, 6) != self.blocks {
+            return Err(NOT_NEXT);
+        }
+        match kind {
+            1 => self.set_up(block)?,
+            2 => self.describe(block)?,
+            _ => self.take_posts(block)?,
+        }
+        self.blocks += 1;
+        Ok(())
+    }
+
+    /// "Kind 1, first, once."
+    fn set_up(&mut self, block: &Block) -> Result<(), u8> {
+        if self.plan.substances > 0 {
+            return Err(TURN);
+        }
+        self.plan = Plan::read(block)?;
+        Ok(())
+    }
+
+    /// "Kind 2, once per stage in order. Count: the stage."
+    fn describe(&mut self, block: &Block) -> Result<(), u8> {
+        let next = self.described;
+        if next == self.plan.stages || usize::from(block[5]) != next {
+            return Err(TURN);
+        }
+        self.stages[next] = Stage::read(block, self.plan.substances)?;
+        self.described += 1;
+        Ok(())
+    }
+
+    /// Decline 4 of a post or a block of posts: "before the last stage is described".
+    fn ready(&self) -> Result<(), u8> {
+        let ready = self.plan.stages > 0 && self.described == self.plan.stages;
+        ready.then_some(()).ok_or(TURN)
+    }
+
+    /// Decline 5.
+    fn open(&self) -> Result<(), u8> {
+        (!self.closed).then_some(()).ok_or(CLOSED)
+    }
+
+    /// "A block is taken whole or not at all." "Its posts are tried in turn, each from 5 on the
+    /// book the earlier ones left, and the first decline is the block's."
+    fn take_posts(&mut self, block: &Block) -> Result<(), u8> {
+        self.ready()?;
+        self.open()?;
+        let count = usize::from(block[5]);
+        if !(1..=POSTS_IN_BLOCK).contains(&count) || !zero_from(block, BODY + post::SIZE * count) {
+            return Err(LAYOUT);
+        }
+        let mut taken = [Move::Close; POSTS_IN_BLOCK];
+        for (i, bytes) in block[BODY..]
+            .chunks_exact(post::SIZE)
+            .take(count)
+            .enumerate()
+        {
+            match self.take(bytes) {
+                Ok(done) => taken[i] = done,
+                Err(decline) => {
+                    taken[..i].iter().rev().for_each(|done| self.undo(*done));
+                    return Err(decline);
+                }
+            }
+        }
+        Ok(())
+    }
+
+    /// Tries one post from decline 5 on; a post that is taken is returned, so it can be undone.
+    fn take(&mut self, bytes: &[u8]) -> Result<Move, u8> {
+        self.open()?;
+        let this = Move::read(bytes, &self.plan)?;
+        if self.posts >= MOST_POSTS && this != Move::Close {
+            return Err(FULL);
+        }
+        self.apply(this)?;
+        self.posts += 1;
+        Ok(this)
+    }
+
+    /// Decline 11, and then the post's effect.
+    fn apply(&mut self, this: Move) -> Result<(), u8> {
+        match this {
+            Move::Stock { material, grams } => self.stores[usize::from(material)] += grams,
+            Move::Issue {
+                material,
+                stage,
+                grams,
+            } => {
+                fall(&mut self.stores[usize::from(material)], grams)?;
+                self.issue(material, stage, |sum, ppm| *sum += grams * ppm);
+            }
+            Move::Form { pair, amount } => {
+                self.account(pair).held += amount;
+                self.handled[usize::from(pair.substance)] += amount;
+            }
+            Move::Leave { pair, exit, amount } => {
+                let account = self.account(pair);
+                fall(&mut account.held, amount)?;
+                account.exits[exit as usize] += amount;
+            }
+            Move::Close => self.turn_closed(),
+        }
+        Ok(())
+    }
+
+    /// Takes back the last post taken.
+    fn undo(&mut self, last: Move) {
+        self.posts -= 1;
+        match last {
+            Move::Stock { material, grams } => self.stores[usize::from(material)] -= grams,
+            Move::Issue {
+                material,
+                stage,
+                grams,
+            } => {
+                self.stores[usize::from(material)] += grams;
+                self.issue(material, stage, |sum, ppm| *sum -= grams * ppm);
+            }
+            Move::Form { pair, amount } => {
+                self.account(pair).held -= amount;
+                self.handled[usize::from(pair.substance)] -= amount;
+            }
+            Move::Leave { pair, exit, amount } => {
+                let account = self.account(pair);
+                account.held += amount;
+                account.exits[exit as usize] -= amount;
+            }
+            Move::Close => self.turn_closed(),
+        }
+    }
+
+    fn account(&mut self, pair: Pair) -> &mut Account {
+        &mut self.accounts[usize::from(pair.stage)][usize::from(pair.substance)]
+    }
+
+    /// "The stage's holding of each substance grows by g times counted content", and handled with
+    /// it: `change` is given each sum and the counted content.
+    fn issue(&mut self, material: u8, stage: u8, change: impl Fn(&mut u64, u64)) {
+        let contents = &self.plan.counted[usize::from(material)][..self.plan.substances];
+        let accounts = &mut self.accounts[usize::from(stage)];
+        for ((ppm, account), handled) in contents.iter().zip(accounts).zip(&mut self.handled) {
+            change(&mut account.held, u64::from(*ppm));
+            change(handled, u64::from(*ppm));
+        }
+    }
+
+    /// The close, and its own undoing: before it nothing is moved, after it nothing is held.
+    fn turn_closed(&mut self) {
+        self.closed = !self.closed;
+        for account in self.accounts.iter_mut().flatten() {
+            std::mem::swap(&mut account.held, &mut account.moved);
+        }
+    }
+}
+
+/// "A store or holding is less than what leaves it."
+fn fall(sum: &mut u64, amount: u64) -> Result<(), u8> {
+    *sum = sum.checked_sub(amount).ok_or(SHORT)?;
+    Ok(())
+}

@@ -1,0 +1,22 @@
+//! Document 01 in plain Rust: one site's book for one year, from posts to the PRTR return.
+//!
+//! This is an independent model. It was written from the paper and its readings alone, so that a
+//! slip shared with another implementation is unlikely. The book is mutable and updated in place.
+//!
+//! Quotations in the comments are the paper's own sentences.
+
+mod amounts;
+mod block;
+mod book;
+mod decline;
+mod filing;
+mod loss;
+mod post;
+mod report;
+mod setup;
+
+pub use amounts::{counted, due, figure, split, step, Parts};
+pub use book::Book;
+pub use filing::filing;
+pub use loss::loss;
+pub use report::Report;

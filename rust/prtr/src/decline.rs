@@ -1,0 +1,98 @@
+//! Why a call is declined.
+
+use std::error::Error;
+use std::fmt;
+
+/// Why a call is declined, in document 01's checking order and with its numbers.
+///
+/// ```
+/// use prtr::Decline;
+///
+/// assert_eq!(Decline::Layout.number(), 6);
+/// assert_eq!(Decline::from_number(11), Some(Decline::Short));
+/// assert_eq!(Decline::from_number(13), None);
+/// ```
+#[derive(Clone, Copy, Debug, PartialEq, Eq, PartialOrd, Ord, Hash)]
+#[repr(u8)]
+pub enum Decline {
+    /// A block isn't 512 bytes or lacks "PRTR".
+    NotABlock = 1,
+    /// A check sum differs.
+    CheckSum = 2,
+    /// A block's kind isn't 1 to 3 or its number isn't the next.
+    NotNext = 3,
+    /// A set-up block comes out of its turn, or posts come before the last stage is described.
+    OutOfTurn = 4,
+    /// The book is closed.
+    Closed = 5,
+    /// A length, kind, form, index, count, limit, order or zero place breaks the layout.
+    Layout = 6,
+    /// A float is not finite or outside its range.
+    Float = 7,
+    /// Form 1 or 2 names a substance without a coefficient row.
+    NoRow = 8,
+    /// A vapour loss exceeds 2,000,000 kg.
+    LossLimit = 9,
+    /// 4,000 posts are accepted and this isn't the close.
+    Full = 10,
+    /// A store or holding is less than what leaves it.
+    Short = 11,
+    /// A report names a substance that the book hasn't.
+    NoSubstance = 12,
+}
+
+impl Decline {
+    /// Every decline, in checking order.
+    pub const ALL: [Decline; 12] = [
+        Decline::NotABlock,
+        Decline::CheckSum,
+        Decline::NotNext,
+        Decline::OutOfTurn,
+        Decline::Closed,
+        Decline::Layout,
+        Decline::Float,
+        Decline::NoRow,
+        Decline::LossLimit,
+        Decline::Full,
+        Decline::Short,
+        Decline::NoSubstance,
+    ];
+
+    /// Document 01's number, 1 to 12.
+    pub const fn number(self) -> u8 {
+        self as u8
+    }
+
+    /// The decline with this number, or `None` where document 01 has none.
+    pub fn from_number(number: u8) -> Option<Decline> {
+        Decline::ALL
+            .into_iter()
+            .find(|decline| decline.number() == number)
+    }
+
+    /// Document 01's words, cut short.
+    const fn words(self) -> &'static str {
+        match self {
+            Decline::NotABlock => "the block isn't 512 bytes or lacks its tag",
+            Decline::CheckSum => "a check sum differs",
+            Decline::NotNext => "the block's kind or number isn't the next",
+            Decline::OutOfTurn => "out of the set-up's turn",
+            Decline::Closed => "the book is closed",
+            Decline::Layout => "the layout or a limit is broken",
+            Decline::Float => "a float is not finite or outside its range",
+            Decline::NoRow => "the substance has no coefficient row",
+            Decline::LossLimit => "the loss exceeds 2,000,000 kg",
+            Decline::Full => "4,000 posts are accepted",
+            Decline::Short => "a store or holding is less than what leaves it",
+            Decline::NoSubstance => "the book hasn't this substance",
+        }
+    }
+}
+
+impl fmt::Display for Decline {
+    fn fmt(&self, f: &mut fmt::Formatter<'_>) -> fmt::Result {
+        write!(f, "declined by {}: {}", self.number(), self.words())
+    }
+}
+
+impl Error for Decline {}

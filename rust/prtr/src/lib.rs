@@ -1,0 +1,294 @@
+//! What a plant files once a year under PRTR, worked out by a proved library.
+//!
+//! Material is in grams, content in parts per million by mass (ppm), substance in micrograms. The papers' numbers
+//! are whole; a vapour loss is worked out in `f64` and then cut to whole micrograms.
+//!
+//! The functions here answer for every input: what is outside the limits is an [`Err`] with its [`Decline`].
+//!
+//! ```
+//! use prtr::{Class, Form};
+//!
+//! // Benzene (400) that left through a tank's floating roof, and how it is filed: about 0.2 kg.
+//! let roof = Form::FloatingRoof { diameter: 14.0, content: 0.62, drawn: 36_000.0 };
+//! let lost = prtr::loss(400, roof)?;
+//! assert_eq!(lost, 197_887_867);
+//! assert_eq!(prtr::figure(lost), 200_000_000);
+//!
+//! // 1 t handled is filed in class one.
+//! assert!(prtr::due(Class::One, 1_000_000_000_000)?);
+//! # Ok::<(), prtr::Decline>(())
+//! ```
+//!
+//! The archive is found at build time in the directory that `PRTR_LIB` names, or else in `target/staticlib` at the
+//! repository's top, where `rt staticlib prtr` writes it.
+
+#![deny(unsafe_code)]
+#![warn(missing_docs)]
+
+mod decline;
+mod form;
+pub mod raw;
+
+pub use decline::Decline;
+pub use form::Form;
+
+/// The bytes that [`filing_into`] must be lent: those of the longest text of a return.
+pub const ROOM: usize = 1336;
+
+/// The class of a substance.
+///
+/// Where a function takes a class it takes its number too, which may be any `u8`.
+///
+/// ```
+/// use prtr::{Class, Decline};
+///
+/// assert_eq!(prtr::counted(Class::Two, 1_000), prtr::counted(2u8, 1_000));
+/// assert_eq!(prtr::counted(3u8, 1_000), Err(Decline::Layout));
+/// ```
+#[derive(Clone, Copy, Debug, PartialEq, Eq, Hash)]
+#[repr(u8)]
+pub enum Class {
+    /// Class one.
+    One = 1,
+    /// Specific class one.
+    Two = 2,
+}
+
+impl From<Class> for u8 {
+    fn from(class: Class) -> u8 {
+        class as u8
+    }
+}
+
+/// What treatment makes of a total; the three add up to it.
+#[derive(Clone, Copy, Debug, Default, PartialEq, Eq, Hash)]
+pub struct Parts {
+    /// Micrograms that leave untreated.
+    pub released: u64,
+    /// Micrograms that are no more.
+    pub destroyed: u64,
+    /// Micrograms removed and not destroyed, which leave as residue.
+    pub residue: u64,
+}
+
+/// The answer where the library's status is 0, and else the decline with that number.
+fn answer<A>(status: u8, value: A) -> Result<A, Decline> {
+    if status == 0 {
+        return Ok(value);
+    }
+    match Decline::from_number(status) {
+        Some(decline) => Err(decline),
+        None => panic!("libprtr.a answered {status}, which is no decline of document 01"),
+    }
+}
+
+/// A material's content of a substance as it counts: from 10,000 ppm in class one and from
+/// 1,000 ppm in class two as it is, else 0.
+///
+/// Declines a class other than 1 and 2, and more than 1,000,000 ppm, by [`Decline::Layout`].
+///
+/// ```
+/// use prtr::{counted, Class, Decline};
+///
+/// // F11.
+/// assert_eq!(counted(Class::One, 9_999), Ok(0));
+/// assert_eq!(counted(Class::One, 10_000), Ok(10_000));
+/// assert_eq!(counted(Class::Two, 1_000_001), Err(Decline::Layout));
+/// ```
+pub fn counted(class: impl Into<u8>, ppm: u32) -> Result<u32, Decline> {
+    let mut counted = 0;
+    let status = raw::counted(class.into(), ppm, &mut counted);
+    answer(status, counted)
+}
+
+/// What treatment makes of a year's total in micrograms, with the rates of removal and destruction in ppm.
+///
+/// Removed and destroyed are each rounded down. Declines a rate above 1,000,000 ppm by [`Decline::Layout`].
+///
+/// ```
+/// use prtr::{split, Decline, Parts};
+///
+/// // F12 and F13.
+/// assert_eq!(split(7, 500_000, 500_000), Ok(Parts { released: 4, destroyed: 1, residue: 2 }));
+/// assert_eq!(split(1, 999_999, 0), Ok(Parts { released: 1, destroyed: 0, residue: 0 }));
+/// assert_eq!(split(1, 1_000_001, 0), Err(Decline::Layout));
+/// ```
+pub fn split(total: u64, removal: u32, destruction: u32) -> Result<Parts, Decline> {
+    let mut parts = Parts::default();
+    let Parts {
+        released,
+        destroyed,
+        residue,
+    } = &mut parts;
+    let status = raw::split(total, removal, destruction, released, destroyed, residue);
+    answer(status, parts)
+}
+
+/// The step that an amount is rounded to: 0.1 kg below 10 kg, else a tenth of the largest power of ten not above it.
+///
+/// ```
+/// assert_eq!(prtr::step(9_950_000_000), 100_000_000);
+/// assert_eq!(prtr::step(10_000_000_000), 1_000_000_000);
+/// assert_eq!(prtr::step(u64::MAX), 1_000_000_000_000_000_000);
+/// ```
+pub fn step(amount: u64) -> u64 {
+    raw::step(amount)
+}
+
+/// The filed figure of a heading's exact amount: rounded half up to the amount's step, both in micrograms.
+///
+/// ```
+/// use prtr::figure;
+///
+/// const GRAM: u64 = 1_000_000;
+/// const KG: u64 = 1_000 * GRAM;
+///
+/// // F1 to F9.
+/// assert_eq!(figure(49_999_999), 0);
+/// assert_eq!(figure(50_000_000), 100 * GRAM);
+/// assert_eq!(figure(8_840_302_000), 8_800 * GRAM);
+/// assert_eq!(figure(9_949_999_999), 9_900 * GRAM);
+/// assert_eq!(figure(9_950_000_000), 10 * KG);
+/// assert_eq!(figure(99_500_000_000), 100 * KG);
+/// assert_eq!(figure(102 * KG), 100 * KG);
+/// assert_eq!(figure(225 * KG), 230 * KG);
+/// assert_eq!(figure(588 * KG), 590 * KG);
+/// ```
+pub fn figure(amount: u64) -> u64 {
+    raw::figure(amount)
+}
+
+/// Whether a substance must be filed that was handled to so many micrograms: from 1 t in class one, from 0.5 t in class two.
+///
+/// Declines a class other than 1 and 2 by [`Decline::Layout`].
+///
+/// ```
+/// use prtr::{due, Class, Decline};
+///
+/// // F10.
+/// assert_eq!(due(Class::One, 999_999_999_999), Ok(false));
+/// assert_eq!(due(Class::One, 1_000_000_000_000), Ok(true));
+/// assert_eq!(due(Class::Two, 500_000_000_000), Ok(true));
+/// assert_eq!(due(0u8, 0), Err(Decline::Layout));
+/// ```
+pub fn due(class: impl Into<u8>, handled: u64) -> Result<bool, Decline> {
+    let mut due = 0;
+    let status = raw::due(class.into(), handled, &mut due);
+    answer(status, due).map(|due| match due {
+        0 => false,
+        1 => true,
+        other => panic!("libprtr.a answered {other} for due, which is neither 0 nor 1"),
+    })
+}
+
+/// The micrograms of a substance, by its management number, that are lost as vapour.
+///
+/// Declines, in this order, number 0 by [`Decline::Layout`], an input that is not finite or outside its range by
+/// [`Decline::Float`], a floating or fixed roof without a coefficient row by [`Decline::NoRow`] (53, 80, 300, 392
+/// and 400 have one), and a loss above 2,000,000 kg by [`Decline::LossLimit`].
+///
+/// ```
+/// use prtr::{loss, Decline, Form};
+///
+/// // Toluene, while a fixed roof tank is filled.
+/// let tank = Form::FixedRoof { volume: 2_000.0, partial: 1_550.0, tank: 98_100.0, share: 1.0 };
+/// assert_eq!(loss(300, tank), Ok(119_326_299_694));
+/// assert_eq!(loss(301, tank), Err(Decline::NoRow));
+///
+/// // Benzene at a filling station: 8.8 kg.
+/// let station = Form::Station { received: 1_500.0, filling: 0.0026885, dispensed: 1_420.0, fuelling: 0.0033856 };
+/// assert_eq!(loss(400, station), Ok(8_840_302_000));
+/// ```
+pub fn loss(number: u16, form: Form) -> Result<u64, Decline> {
+    let [w, u, p, q] = form.floats().map(f64::to_bits);
+    loss_bits(form.number(), number, w, u, p, q)
+}
+
+/// [`loss`] by the form's number and the four floats' bits, as a post has them: each may be anything.
+///
+/// ```
+/// use prtr::{loss_bits, Decline};
+///
+/// let (tank, content, drawn) = (14f64.to_bits(), 0.62f64.to_bits(), 36_000f64.to_bits());
+/// assert_eq!(loss_bits(1, 400, tank, content, drawn, 0), Ok(197_887_867));
+/// assert_eq!(loss_bits(1, 400, tank, content, drawn, 1), Err(Decline::Float));
+/// assert_eq!(loss_bits(4, 400, tank, content, drawn, 0), Err(Decline::Layout));
+/// ```
+pub fn loss_bits(form: u8, number: u16, w: u64, u: u64, p: u64, q: u64) -> Result<u64, Decline> {
+    let mut micrograms = 0;
+    let status = raw::loss(form, number, [w, u, p, q], &mut micrograms);
+    answer(status, micrograms)
+}
+
+/// The text of the return that a journal gives, or the line that says which block was refused and why.
+///
+/// ```
+/// /// A block of 512 bytes with its check sums.
+/// fn block(kind: u8, count: u8, number: u16, body: &[u8]) -> Vec<u8> {
+///     let mut block = [&b"PRTR"[..], &[kind, count], &number.to_le_bytes(), body].concat();
+///     block.resize(508, 0);
+///     let plain: u32 = block.iter().map(|&byte| byte as u32).sum();
+///     let placed: u32 = (1..).zip(&block).map(|(place, &byte)| place * byte as u32).sum();
+///     for sum in [plain, placed] {
+///         block.extend(((sum % 65_521) as u16).to_le_bytes());
+///     }
+///     block
+/// }
+///
+/// /// A post of the one material, stage and substance.
+/// fn post(kind: u8, content: u32, grams: u64) -> Vec<u8> {
+///     [&[kind, 0, 0, 0][..], &content.to_le_bytes(), &grams.to_le_bytes(), &[0; 32]].concat()
+/// }
+///
+/// // One material with 450,000 ppm of xylene (80, class 1).
+/// let mut site = vec![0; 410];
+/// site[0] = 1;
+/// site[1] = 1;
+/// site[2] = 80;
+/// site[18] = 1;
+/// site[26..30].copy_from_slice(&450_000u32.to_le_bytes());
+/// // Opening, bought, issued, shipped and the close.
+/// let year = [
+///     post(1, 0, 500_000),
+///     post(2, 0, 2_500_000),
+///     post(3, 0, 2_700_000),
+///     post(5, 450_000, 2_200_000),
+///     post(13, 0, 0),
+/// ];
+/// let journal = [
+///     block(1, 1, 0, &site),
+///     block(2, 0, 1, &[1, 1, 1]),
+///     block(3, 5, 2, &year.concat()),
+/// ]
+/// .concat();
+///
+/// let title = "substance handled due air water soil land sewer offsite\n";
+/// let xylene = "80 1215000000000 Y 230 0.0 0.0 0.0 0.0 0.0\n";
+/// assert_eq!(prtr::filing(&journal), [title, xylene].concat());
+/// assert_eq!(prtr::filing(&[]), title);
+/// assert_eq!(prtr::filing(&journal[..1_000]), "refused 1 1\n");
+/// ```
+pub fn filing(journal: &[u8]) -> String {
+    let mut out = vec![0; ROOM];
+    let length = raw::filing(journal, &mut out);
+    out.truncate(length);
+    String::from_utf8(out).expect("the text of a return is ASCII")
+}
+
+/// Puts the text of [`filing`] at the start of `out` and gives its length; `None`, and `out` as it
+/// was, where `out` is shorter than [`ROOM`].
+///
+/// The bytes behind the text stay as they were.
+///
+/// ```
+/// let mut out = [b'.'; prtr::ROOM];
+/// assert_eq!(prtr::filing_into(b"no journal", &mut out), Some(12));
+/// assert_eq!(&out[..16], b"refused 0 1\n....");
+/// assert_eq!(prtr::filing_into(b"no journal", &mut out[1..]), None);
+/// ```
+pub fn filing_into(journal: &[u8], out: &mut [u8]) -> Option<usize> {
+    match raw::filing(journal, out) {
+        0 => None,
+        length => Some(length),
+    }
+}

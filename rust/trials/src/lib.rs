@@ -1,0 +1,13 @@
+//! The proved library against the plain model: journals, their damage, and the comparison.
+//!
+//! `PRTR_SEED` sets the seed and `PRTR_CASES` multiplies the number of cases.
+
+pub mod aim;
+pub mod damage;
+pub mod floats;
+pub mod layout;
+pub mod ledger;
+pub mod rng;
+pub mod site;
+pub mod trial;
+pub mod year;

@@ -1,0 +1,101 @@
+//! The bytes that a journal's text may and may not alter, and the longest texts.
+
+use prtr::ROOM;
+use trials::layout::{Post, MOST_POSTS};
+use trials::ledger::{MOST_GRAMS, MOST_MICROGRAMS};
+use trials::rng::Rng;
+use trials::site::{Pair, Site, Stage};
+use trials::trial::Trial;
+use trials::year::{tens, Year};
+
+#[test]
+fn too_little_room_is_left_alone() {
+    let journal = Year::any(&mut Rng::new(1)).blocks();
+    for journal in [&[][..], &[0; 100], journal.as_flattened()] {
+        for room in (0..ROOM).step_by(89).chain([1, 12, 56, ROOM - 1]) {
+            let mut out = vec![0xc3; room];
+            assert_eq!(prtr::filing_into(journal, &mut out), None);
+            assert!(
+                out.iter().all(|&byte| byte == 0xc3),
+                "room {room} was written to"
+            );
+        }
+    }
+}
+
+#[test]
+fn enough_room_holds_the_text_and_the_rest_stays() {
+    let journal = Year::any(&mut Rng::new(2)).blocks();
+    for journal in [&[][..], &[0; 100], journal.as_flattened()] {
+        let expected = model::filing(journal);
+        for room in [ROOM, ROOM + 1, 4_096] {
+            let mut out = vec![0xc3; room];
+            assert_eq!(prtr::filing_into(journal, &mut out), Some(expected.len()));
+            assert_eq!(out[..expected.len()], expected);
+            assert!(out[expected.len()..].iter().all(|&byte| byte == 0xc3));
+        }
+        assert_eq!(prtr::filing(journal).as_bytes(), expected);
+    }
+}
+
+#[test]
+fn no_bytes_print_the_title() {
+    assert_eq!(
+        prtr::filing(&[]),
+        "substance handled due air water soil land sewer offsite\n"
+    );
+}
+
+/// Eight substances with long numbers, and two stages that send water and residues to all four headings.
+fn great_site(rates: [u32; 4]) -> Site {
+    let stage = |place: u8| Stage {
+        water: place,
+        residues: place,
+        pairs: vec![Pair { side: place, rates }; 8],
+    };
+    Site {
+        numbers: (65_528..=65_535).collect(),
+        classes: vec![1, 2, 1, 2, 1, 2, 1, 2],
+        contents: vec![vec![125_000; 8]],
+        stages: vec![stage(1), stage(2)],
+    }
+}
+
+/// The most that a year can form: of the first `spread` substances, and left under every heading or for the close.
+fn great_year(rates: [u32; 4], spread: usize, leaving: bool) -> Year {
+    let site = great_site(rates);
+    let mut rng = Rng::new(spread as u64);
+    let mut year = Year::open(&mut rng, site, 0);
+    for place in 0..4_000 {
+        let holding = ((place / 2 % 2) as u8, (place / 4 % spread) as u8);
+        let kind = 6 + (place / 8 % 6) as u8;
+        year.add(match leaving && place % 2 == 1 {
+            true => Post::left(kind, holding, 1_000_000, MOST_GRAMS),
+            false => Post::formed(holding, MOST_MICROGRAMS),
+        });
+    }
+    year.posts.push(Post::CLOSE);
+    year.sizes = tens(4_000);
+    year.sizes.push(1);
+    assert_eq!(year.sizes[0], MOST_POSTS);
+    year
+}
+
+#[test]
+fn the_greatest_years() {
+    let mut trial = Trial::new("greatest years");
+    let rates = [
+        [0; 4],
+        [1_000_000; 4],
+        [999_999, 999_999, 999_999, 999_999],
+        [500_000, 1, 1, 500_000],
+    ];
+    for rates in rates {
+        for (spread, leaving) in [(1, false), (1, true), (8, false), (8, true)] {
+            let answer = trial.give_blocks(&great_year(rates, spread, leaving).blocks());
+            assert!(answer.refused.is_none(), "a great year was refused");
+            assert!(answer.text.len() <= ROOM);
+        }
+    }
+    trial.finish();
+}
