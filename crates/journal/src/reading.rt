@@ -1,9 +1,9 @@
 // Reading a journal: a state by value that is fed one part of the input at a time.
 ghost use mathlib.Core.Path.{_≡_};
-ghost use Prim.Native.Nat.{_≤_};
+ghost use Prim.Native.Nat.{_+_, _≤_, min};
 ghost use lib.ListN.{length};
 ghost use Rattle.book.specs.Site.{Sound};
-ghost use Rattle.journal.specs.Reading.{started, fed, returnText, textOf};
+ghost use Rattle.journal.specs.Reading.{partsOf, started, fed, fedAll, returnText, textOf};
 ghost use Rattle.journal.specs.Writing.{Puts, Tries};
 use crate::block;
 use crate::text;
@@ -58,6 +58,43 @@ pub fn feed(r: Reading, part: &[u8]) -> Reading
             book: next,
             stopped: Stopped::By(d),
         },
+    }
+}
+
+// Where the part from a place on ends: 512 bytes on, or at the end of the journal.
+fn part_end(at: usize, length: usize) -> usize
+    requires { ⌜ at ≤ length ⌝ }
+    ensures { λ r. ⌜ r ≡ min (at + 512) length ⌝ }
+{
+    if length - at < 512 {
+        return length;
+    }
+    at + 512
+}
+
+// A whole journal, in parts of 512 bytes, the last one perhaps shorter, up to the first that is declined.
+pub fn read_whole(journal: &[u8]) -> Reading
+    ensures { λ r. ⌜ r ≡ fedAll started (partsOf (now (journal .entry))) ⌝ }
+    ensures { λ r. ⌜ Sound (r .book) ⌝ }
+{
+    let mut b = site::fresh();
+    let mut at: usize = 0;
+    while at < journal.len() {
+        let end = part_end(at, journal.len());
+        let a = block::take_block(b, &journal[at..end]);
+        let v = a.verdict;
+        b = a.book;
+        if let Verdict::Declined(d) = v {
+            return Reading {
+                book: b,
+                stopped: Stopped::By(d),
+            };
+        }
+        at = end;
+    }
+    Reading {
+        book: b,
+        stopped: Stopped::No,
     }
 }
 

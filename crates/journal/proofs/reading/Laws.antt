@@ -73,7 +73,7 @@ block-next b c s h e = go (block-taken b c s e .1)
         (posts-sound b c (countOf s) (bodyOf s) h f, ap (λ (x : Book). x .blocks) (z .2) ∙ add-one (z .0 .blocks) ∙ ap suc (m .same-blocks))
 
 -- after a decline nothing changes
-stays-all : (b : Book) (d : Decline) (parts : List (List ℕ)) → fedAll (record { book = b; stopped = By d }) parts ≡ record { book = b; stopped = By d }
+pub stays-all : (b : Book) (d : Decline) (parts : List (List ℕ)) → fedAll (record { book = b; stopped = By d }) parts ≡ record { book = b; stopped = By d }
 unfolding fedAll
 stays-all b d [] = refl
 stays-all b d (part ∷ parts) = stays-all b d parts

@@ -6,8 +6,8 @@ use borrow.Author.Needs.{needs}
 use Rattle.prtr.proofs.whole.prtr_filing.Statement.{statement}
 use Rattle.prtr.proofs.whole.prtr_filing.Tie as tie
 
-read-all-requires : tie.Need-read-all-requires
-read-all-requires c κs = search needs
+read-whole-requires : tie.Need-read-whole-requires
+read-whole-requires c κs = search needs
 
 print-requires : tie.Need-print-requires
 print-requires c κs = search needs
@@ -25,7 +25,7 @@ returns : tie.Need-returns
 returns c =
     let a = c .before .before .before .before .before .before .before .before .before .before .args in
     let p = c .before .before .before .before .before .print in
-    let t = prints (now (a .journal)) (now (a .out)) _ (c .before .before .before .before .before .before .before .read-all .result) (p .result) (c .before .before .before .before .before .before .before .read-all .ensures .0) (p .ensures) in
+    let t = prints (now (a .journal)) (now (a .out)) _ (c .before .before .before .before .before .before .before .read-whole .result) (p .result) (c .before .before .before .before .before .before .before .read-whole .ensures .0) (p .ensures) in
     (at-length (now (a .out)) (filingOf (now (a .journal))) (c .before .n .given .0 .0) (sym (c .before .n .given .1) ∙ t .answer), t .text-in)
 
 same-length-2 : tie.Need-same-length-2
@@ -35,14 +35,14 @@ returns-2 : tie.Need-returns-2
 returns-2 c =
     let a = c .before .before .before .before .before .before .before .before .before .args in
     let p = c .before .before .before .before .print in
-    let t = prints (now (a .journal)) (now (a .out)) _ (c .before .before .before .before .before .before .read-all .result) (p .result) (c .before .before .before .before .before .before .read-all .ensures .0) (p .ensures) in
+    let t = prints (now (a .journal)) (now (a .out)) _ (c .before .before .before .before .before .before .read-whole .result) (p .result) (c .before .before .before .before .before .before .read-whole .ensures .0) (p .ensures) in
     (no-length (now (a .out)) (filingOf (now (a .journal))) (sym (c .enum-told .given .1) ∙ t .answer), t .text-in)
 
 pub prtr-filing-spec : {M : Type 1} → statement M
 prtr-filing-spec =
     tie.close
     (tie.spec
-    read-all-requires
+    read-whole-requires
     print-requires
     enum-known-n
     enum-told
