@@ -37,13 +37,13 @@ fn check_sums(s: &[u8]) -> CheckSums
     requires { ⌜ length (now s) ≤ 512 ⌝ }
     ensures { λ r. ⌜ r ≡ record { plain = plainSum (now (s .entry)); weighted = weightedSum (now (s .entry)) } ⌝ }
 {
-    let mut plain: u64 = 0;
-    let mut weighted: u64 = 0;
+    let mut plain: u32 = 0;
+    let mut weighted: u32 = 0;
     let mut i: usize = 0;
     while i < s.len() {
         let x = wide(s[i]);
         plain += x;
-        weighted += x * (i as u64 + 1);
+        weighted += x * (i as u32 + 1);
         i += 1;
     }
     CheckSums {
@@ -52,10 +52,10 @@ fn check_sums(s: &[u8]) -> CheckSums
     }
 }
 
-fn wide(x: u8) -> u64
+fn wide(x: u8) -> u32
     ensures { λ r. ⌜ r ≡ x ⌝ }
 {
-    x as u64
+    x as u32
 }
 
 fn is_kind(kind: u8) -> bool

@@ -45,6 +45,9 @@ wide-requires c κs = search needs
 add-plain : tie.Need-add-plain Inv-loop μ-loop
 add-plain c = omega (arith, byte c)
 
+cast-weighted : tie.Need-cast-weighted Inv-loop μ-loop
+cast-weighted c = omega arith
+
 add-weighted : tie.Need-add-weighted Inv-loop μ-loop
 add-weighted c = omega arith
 
@@ -98,6 +101,7 @@ check-sums-spec =
     shared-slice-read-wide
     wide-requires
     add-plain
+    cast-weighted
     add-weighted
     mul-weighted
     add-weighted-2
