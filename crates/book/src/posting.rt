@@ -1,10 +1,10 @@
 // A post on a book: read it, see that the book has what leaves it, and apply it.
 ghost use mathlib.Core.Path.{_≡_};
-ghost use Prim.Native.Nat.{_≤_, _<_};
-ghost use lib.ListN.{getD};
+ghost use Prim.Native.Nat.{ℕ, _*_, _^_, _≤_, _<_};
+ghost use lib.ListN.{length, getD};
 ghost use Rattle.book.specs.Answer.{outcome};
-ghost use Rattle.book.specs.Ledger.{held, cell};
-ghost use Rattle.book.specs.Posting.{received, issued, formed, transferred, closedBook, applied, hasRoom, isThere, postOn, readOf, readAnswer, Applies};
+ghost use Rattle.book.specs.Ledger.{held, cell, total};
+ghost use Rattle.book.specs.Posting.{received, issued, formed, transferred, closedBook, applied, storeAfter, sumsAfter, handledAfter, hasRoom, isThere, postOn, readOf, readAnswer, admitted, Applies, Entry};
 ghost use Rattle.book.specs.Site.{Sound};
 use crate::answer;
 use crate::answer::Answered;
@@ -82,6 +82,92 @@ fn is_there<'a>(store: &'a [u64; 12], sums: &'a [u64; 576], p: Post, amount: u64
     }
     let pair = (p.stage as usize) * 8 + (p.substance as usize);
     amount <= sums[HELD * 64 + pair]
+}
+
+// A post of any bytes that passes 4 to 11, by what a book holds.
+fn admit<'a>(
+    o: Outline,
+    numbers: &[u16; 8],
+    closed: bool,
+    posts: u32,
+    store: &'a [u64; 12],
+    sums: &'a [u64; 576],
+    s: &[u8],
+) -> ReadingAnswer
+    requires { ⌜ (o .substances ≤ 8) × (o .materials ≤ 12) × (o .stages ≤ 8) ⌝ }
+    ensures { λ r. ⌜ readAnswer r ≡ admitted o (now (numbers .entry)) closed posts (now (store .entry)) (now (sums .entry)) (now (s .entry)) ⌝ }
+{
+    match read(o, numbers, closed, s) {
+        ReadingAnswer::Declined(d) => ReadingAnswer::Declined(d),
+        ReadingAnswer::Read(r) => {
+            let p = r.post;
+            if !has_room(posts, p) {
+                return ReadingAnswer::Declined(decline::FULL);
+            }
+            if !is_there(store, sums, p, r.amount) {
+                return ReadingAnswer::Declined(decline::SHORT);
+            }
+            ReadingAnswer::Read(r)
+        }
+    }
+}
+
+// What a post before the close does to the store.
+fn into_store(store: &mut [u64; 12], p: Post)
+    requires { ⌜ (p .kind ≤ 3 → (p .material < 12) × (p .quantity ≤ 2000000000)) ⌝ }
+    requires { ⌜ ((m : ℕ) → m < 12 → getD (now store) m 0 ≤ 2 * 10 ^ 9 * 4000) ⌝ }
+    requires { ⌜ (p .kind ≡ 3 → p .quantity ≤ getD (now store) (p .material) 0) ⌝ }
+    ensures { λ r. ⌜ now (store .exit) ≡ storeAfter (now (store .entry)) p ⌝ }
+{
+    let material = p.material as usize;
+    if p.kind <= 2 {
+        store[material] = store[material] + p.quantity;
+        return;
+    }
+    if p.kind == 3 {
+        store[material] = store[material] - p.quantity;
+    }
+}
+
+// To the ledger's sums: what is issued or formed comes to a holding, and what leaves one goes to its account.
+fn into_sums(sums: &mut [u64; 576], counted: &[u32; 96], p: Post, amount: u64)
+    requires { ⌜ Entry (now counted) p amount ⌝ }
+    requires { ⌜ length (now sums) ≡ 576 ⌝ }
+    requires { ⌜ ((s : ℕ) → s < 8 → total (now sums) s ≤ 2 * 10 ^ 15 * 4000) ⌝ }
+    requires { ⌜ (5 ≤ p .kind → amount ≤ cell (now sums) held (p .stage) (p .substance)) ⌝ }
+    ensures { λ r. ⌜ now (sums .exit) ≡ sumsAfter (now (sums .entry)) (now (counted .entry)) p amount ⌝ }
+{
+    if p.kind <= 2 {
+        return;
+    }
+    let stage = p.stage as usize;
+    if p.kind == 3 {
+        ledger::hold(sums, counted, p.material as usize, stage, p.quantity);
+        return;
+    }
+    let pair = stage * 8 + (p.substance as usize);
+    let at = HELD * 64 + pair;
+    if p.kind == 4 {
+        sums[at] = sums[at] + amount;
+        return;
+    }
+    ledger::shift(sums, at, ((p.kind as usize) - 4) * 64 + pair, amount);
+}
+
+// And to what was handled.
+fn into_handled(handled: &mut [u64; 8], counted: &[u32; 96], p: Post, amount: u64)
+    requires { ⌜ Entry (now counted) p amount ⌝ }
+    requires { ⌜ ((s : ℕ) → s < 8 → getD (now handled) s 0 ≤ 2 * 10 ^ 15 * 4000) ⌝ }
+    ensures { λ r. ⌜ now (handled .exit) ≡ handledAfter (now (handled .entry)) (now (counted .entry)) p amount ⌝ }
+{
+    if p.kind == 3 {
+        ledger::handle(handled, counted, p.material as usize, p.quantity);
+        return;
+    }
+    if p.kind == 4 {
+        let substance = p.substance as usize;
+        handled[substance] = handled[substance] + amount;
+    }
 }
 
 fn receive(b: Book, material: usize, grams: u64) -> Book

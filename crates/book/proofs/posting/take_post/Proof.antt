@@ -66,7 +66,7 @@ returns c =
 is-there-requires : tie.Need-is-there-requires
 is-there-requires c κs =
     let k = c .before .before .before .before .before .before in
-    in-place (book k) (bytes k) (start k .pre) (reading k) (was-read k)
+    in-place (book k .setup .outline) (book k .setup .numbers) (book k .closed) (bytes k) (start k .pre .setup .substances-few, start k .pre .setup .materials-few, start k .pre .setup .stages-few) (reading k) (was-read k)
 
 declined-requires-3 : tie.Need-declined-requires-3
 declined-requires-3 c κs = search needs
