@@ -5,6 +5,7 @@ ghost use lib.ListN.{length, getD};
 ghost use Rattle.book.specs.Answer.{outcome};
 ghost use Rattle.book.specs.Ledger.{held, cell, total};
 ghost use Rattle.book.specs.Posting.{received, issued, formed, transferred, closedBook, applied, storeAfter, sumsAfter, handledAfter, hasRoom, isThere, postOn, readOf, readAnswer, admitted, Applies, Entry};
+ghost use Rattle.book.specs.Posts.{partOf, takenTo};
 ghost use Rattle.book.specs.Site.{Sound};
 use crate::answer;
 use crate::answer::Answered;
@@ -256,6 +257,54 @@ fn apply(b: Book, p: Post, amount: u64) -> Book
         return transfer(b, (p.kind as usize) - 4, stage, substance, amount);
     }
     close(b)
+}
+
+// The first n posts of the bytes, each of the given size and tried on the book that the earlier ones left. A decline has the book given in.
+pub(crate) fn take_run(b: Book, s: &[u8], size: usize, n: usize) -> Answered
+    requires { ⌜ Sound b ⌝ }
+    requires { ⌜ n * size ≤ length (now s) ⌝ }
+    ensures { λ r. ⌜ r ≡ outcome b (takenTo b (partOf size (now (s .entry))) n) ⌝ }
+    ensures { λ r. ⌜ Sound (r .book) ⌝ }
+{
+    let setup = b.setup;
+    let o = setup.outline;
+    let numbers = setup.numbers;
+    let counted = setup.counted;
+    let rates = setup.rates;
+    let mut left = b;
+    let mut i: usize = 0;
+    while i < n {
+        let at = i * size;
+        let a = admit(
+            o,
+            &numbers,
+            left.closed,
+            left.posts,
+            &left.store,
+            &left.sums,
+            &s[at..at + size],
+        );
+        match a {
+            ReadingAnswer::Declined(d) => return answer::declined(b, d),
+            ReadingAnswer::Read(r) => {
+                let p = r.post;
+                left.posts = left.posts + 1;
+                i += 1;
+                if p.kind == 13 {
+                    ledger::settle(&mut left.sums, rates);
+                    left.closed = true;
+                } else {
+                    into_store(&mut left.store, p);
+                    into_sums(&mut left.sums, &counted, p, r.amount);
+                    into_handled(&mut left.handled, &counted, p, r.amount);
+                }
+            }
+        }
+    }
+    Answered {
+        verdict: Verdict::Accepted,
+        book: left,
+    }
 }
 
 // One post of any bytes.
