@@ -1,10 +1,10 @@
-// A post on a book: read it, see that the book has what leaves it, and apply it.
+// Posts on a book: read each, see that the book has what leaves it, and enter it in the book's lists, which are lent.
 ghost use mathlib.Core.Path.{_≡_};
 ghost use Prim.Native.Nat.{ℕ, _*_, _^_, _≤_, _<_};
 ghost use lib.ListN.{length, getD};
 ghost use Rattle.book.specs.Answer.{outcome};
 ghost use Rattle.book.specs.Ledger.{held, cell, total};
-ghost use Rattle.book.specs.Posting.{received, issued, formed, transferred, closedBook, applied, storeAfter, sumsAfter, handledAfter, hasRoom, isThere, postOn, readOf, readAnswer, admitted, Applies, Entry};
+ghost use Rattle.book.specs.Posting.{storeAfter, sumsAfter, handledAfter, hasRoom, isThere, postOn, readOf, readAnswer, admitted, Entry};
 ghost use Rattle.book.specs.Posts.{partOf, takenTo};
 ghost use Rattle.book.specs.Site.{Sound};
 use crate::answer;
@@ -171,94 +171,6 @@ fn into_handled(handled: &mut [u64; 8], counted: &[u32; 96], p: Post, amount: u6
     }
 }
 
-fn receive(b: Book, material: usize, grams: u64) -> Book
-    requires { ⌜ Sound b ⌝ }
-    requires { ⌜ (material < 12) × (grams ≤ 2000000000) × (b .posts < 4000) ⌝ }
-    ensures { λ r. ⌜ r ≡ received b material grams ⌝ }
-{
-    let mut c = b;
-    c.store[material] = c.store[material] + grams;
-    c.posts = c.posts + 1;
-    c
-}
-
-fn issue(b: Book, material: usize, stage: usize, grams: u64) -> Book
-    requires { ⌜ Sound b ⌝ }
-    requires { ⌜ (material < 12) × (stage < 8) × (grams ≤ 2000000000) × (grams ≤ getD (b .store) material 0) × (b .posts < 4000) ⌝ }
-    ensures { λ r. ⌜ r ≡ issued b material stage grams ⌝ }
-{
-    let setup = b.setup;
-    let counted = setup.counted;
-    let mut c = b;
-    ledger::hold(&mut c.sums, &counted, material, stage, grams);
-    ledger::handle(&mut c.handled, &counted, material, grams);
-    c.store[material] = c.store[material] - grams;
-    c.posts = c.posts + 1;
-    c
-}
-
-fn form(b: Book, stage: usize, substance: usize, amount: u64) -> Book
-    requires { ⌜ Sound b ⌝ }
-    requires { ⌜ (stage < 8) × (substance < 8) × (amount ≤ 2000000000000000) × (b .posts < 4000) ⌝ }
-    ensures { λ r. ⌜ r ≡ formed b stage substance amount ⌝ }
-{
-    let at = HELD * 64 + (stage * 8 + substance);
-    let mut c = b;
-    c.sums[at] = c.sums[at] + amount;
-    c.handled[substance] = c.handled[substance] + amount;
-    c.posts = c.posts + 1;
-    c
-}
-
-fn transfer(b: Book, account: usize, stage: usize, substance: usize, amount: u64) -> Book
-    requires { ⌜ Sound b ⌝ }
-    requires { ⌜ (account < 9) × (stage < 8) × (substance < 8) × (amount ≤ cell (b .sums) held stage substance) × (b .posts < 4000) ⌝ }
-    ensures { λ r. ⌜ r ≡ transferred b account stage substance amount ⌝ }
-{
-    let pair = stage * 8 + substance;
-    let mut c = b;
-    ledger::shift(&mut c.sums, HELD * 64 + pair, account * 64 + pair, amount);
-    c.posts = c.posts + 1;
-    c
-}
-
-fn close(b: Book) -> Book
-    requires { ⌜ Sound b ⌝ }
-    ensures { λ r. ⌜ r ≡ closedBook b ⌝ }
-{
-    let setup = b.setup;
-    let rates = setup.rates;
-    let mut c = b;
-    ledger::settle(&mut c.sums, rates);
-    c.posts = c.posts + 1;
-    c.closed = true;
-    c
-}
-
-// What a post does that passed its checks.
-fn apply(b: Book, p: Post, amount: u64) -> Book
-    requires { ⌜ Sound b ⌝ }
-    requires { ⌜ Applies b p amount ⌝ }
-    ensures { λ r. ⌜ r ≡ applied b p amount ⌝ }
-{
-    let material = p.material as usize;
-    let stage = p.stage as usize;
-    let substance = p.substance as usize;
-    if p.kind <= 2 {
-        return receive(b, material, p.quantity);
-    }
-    if p.kind == 3 {
-        return issue(b, material, stage, p.quantity);
-    }
-    if p.kind == 4 {
-        return form(b, stage, substance, amount);
-    }
-    if p.kind <= 12 {
-        return transfer(b, (p.kind as usize) - 4, stage, substance, amount);
-    }
-    close(b)
-}
-
 // The first n posts of the bytes, each of the given size and tried on the book that the earlier ones left. A decline has the book given in.
 pub(crate) fn take_run(b: Book, s: &[u8], size: usize, n: usize) -> Answered
     requires { ⌜ Sound b ⌝ }
@@ -313,23 +225,5 @@ pub fn take_post(b: Book, s: &[u8]) -> Answered
     ensures { λ r. ⌜ r ≡ outcome b (postOn b (now (s .entry))) ⌝ }
     ensures { λ r. ⌜ Sound (r .book) ⌝ }
 {
-    let setup = b.setup;
-    let numbers = setup.numbers;
-    let o = setup.outline;
-    match read(o, &numbers, b.closed, s) {
-        ReadingAnswer::Declined(d) => answer::declined(b, d),
-        ReadingAnswer::Read(r) => {
-            let p = r.post;
-            if !has_room(b.posts, p) {
-                return answer::declined(b, decline::FULL);
-            }
-            if !is_there(&b.store, &b.sums, p, r.amount) {
-                return answer::declined(b, decline::SHORT);
-            }
-            Answered {
-                verdict: Verdict::Accepted,
-                book: apply(b, p, r.amount),
-            }
-        }
-    }
+    take_run(b, s, s.len(), 1)
 }

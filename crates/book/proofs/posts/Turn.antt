@@ -3,12 +3,13 @@ use mathlib.Core.Path.{_≡_, sym, ap, subst, _∙_}
 use mathlib.Core.Bool.{true}
 use mathlib.Core.List.{List}
 use Prim.Native.Nat.{ℕ, _+_, _-_, _*_, _^_, _≤_, _<_}
-use native.Mathlib.Nat.{add-mul, mul-le-mul}
+use native.Mathlib.Nat.{add-mul, zero-mul, mul-le-mul}
 use native.Mathlib.Omega.{arith}
 use lib.ListN.{length, getD, take, drop}
+use lib.Seq.{take-length}
 use Rattle.amounts.specs.Decline.{Answer, taken, declined}
 use Rattle.book.specs.Ledger.{held, cell, total, settled}
-use Rattle.book.specs.Posting.{withPost, applied, storeAfter, sumsAfter, handledAfter, admitted, Applies, Entry}
+use Rattle.book.specs.Posting.{withPost, applied, storeAfter, sumsAfter, handledAfter, admitted, postOn, Applies, Entry}
 use Rattle.book.specs.Posts.{partOf, takenTo}
 use Rattle.book.specs.Site.{Sound}
 use Rattle.book.specs.declared.posting.Reading.{Reading}
@@ -16,7 +17,7 @@ use Rattle.book.specs.declared.site.Book.{Book}
 use Rattle.book.specs.declared.site.Setup.{Setup}
 use Rattle.book.proofs.posting.Checks.{not-admitted, was-admitted, admitted-applies}
 use Rattle.book.proofs.posting.Laws.{applied-lists, applied-close, entry-of, total-few, handled-few}
-use Rattle.book.proofs.posts.Laws.{taken-next, many-taken}
+use Rattle.book.proofs.posts.Laws.{none-yet, taken-next, many-taken}
 
 -- ---- the parts of bytes
 
@@ -114,3 +115,11 @@ module _ (b : Book) (posts : ℕ → List ℕ) (h : Sound b) (i : ℕ) (c : Book
           ∙ ap (λ (l : List ℕ). withPost c l (sumsAfter (c .sums) (c .setup .counted) p n) (handledAfter (c .handled) (c .setup .counted) p n) (c .closed)) (sym x)
           ∙ ap (λ (l : List ℕ). withPost c store l (handledAfter (c .handled) (c .setup .counted) p n) (c .closed)) y'
           ∙ ap (λ (l : List ℕ). withPost c store sums l (c .closed)) z')
+
+-- ---- a run of one
+
+pub run-of-one : (b : Book) (s : List ℕ) → takenTo b (partOf (length s) s) 1 ≡ postOn b s
+run-of-one b s =
+    let posts = partOf (length s) s in
+    let whole : posts 0 ≡ s = ap (λ (n : ℕ). take (length s) (drop n s)) (zero-mul (length s)) ∙ take-length s in
+    taken-next b posts 0 b (none-yet b posts) ∙ ap (postOn b) whole
