@@ -48,15 +48,12 @@ pub fn take_posts(b: Book, count: u8, body: &[u8]) -> Answered
     if let Verdict::Declined(d) = check_posts(o, b.closed, count, body) {
         return answer::declined(b, d);
     }
-    let a = posting::take_run(b, body, 48, count as usize);
+    let mut a = posting::take_run(b, body, 48, count as usize);
     let v = a.verdict;
     if let Verdict::Declined(_) = v {
         return a;
     }
-    let mut c = a.book;
-    c.blocks = c.blocks + 1;
-    Answered {
-        verdict: Verdict::Accepted,
-        book: c,
-    }
+    let blocks = b.blocks + 1;
+    a.book.blocks = blocks;
+    a
 }

@@ -107,7 +107,7 @@ module _ (b : Book) (s : List ℕ) where
       (after asked)
       _
 
-  pub post-declined : (n : ℕ) → reads ≡ declined n → postOn b s ≡ declined n
+  post-declined : (n : ℕ) → reads ≡ declined n → postOn b s ≡ declined n
   post-declined n e = post-is ∙ rw e
 
   -- what holds of the post asked holds of it as read
@@ -115,15 +115,7 @@ module _ (b : Book) (s : List ℕ) where
     as-read : (P : Reading → Type 0) → P asked → P r
     as-read P h = subst P (sym (was-read (b .setup .outline) (b .setup .numbers) (b .closed) s r e .1)) h
 
-    pub post-full : room r ≡ false → postOn b s ≡ declined 10
-    unfolding checked
-    post-full = as-read (λ x. room x ≡ false → postOn b s ≡ declined 10) (λ f. post-is ∙ rw (e, f))
-
-    pub post-short : room r ≡ true → there r ≡ false → postOn b s ≡ declined 11
-    unfolding checked
-    post-short = as-read (λ x. room x ≡ true → there x ≡ false → postOn b s ≡ declined 11) (λ f g. post-is ∙ rw (e, f, g))
-
-    pub post-taken : room r ≡ true → there r ≡ true → postOn b s ≡ taken (after r)
+    post-taken : room r ≡ true → there r ≡ true → postOn b s ≡ taken (after r)
     unfolding checked
     post-taken = as-read (λ x. room x ≡ true → there x ≡ true → postOn b s ≡ taken (after x)) (λ f g. post-is ∙ rw (e, f, g))
 
@@ -191,7 +183,7 @@ module _ (b : Book) (s : List ℕ) (sound : Sound b) where
           in-holding = h .1;
         }
 
-    pub applies : room b s r ≡ true → there b s r ≡ true → Applies b (r .post) (r .amount)
+    applies : room b s r ≡ true → there b s r ≡ true → Applies b (r .post) (r .amount)
     applies = as-read b s r e (λ x. room b s x ≡ true → there b s x ≡ true → Applies b (x .post) (x .amount)) applies-asked
 
   pub post-was-taken : (c : Book) → postOn b s ≡ taken c

@@ -6,8 +6,8 @@ use Rattle.amounts.specs.Decline.{taken}
 use Rattle.book.specs.Answer.{outcome}
 use Rattle.book.specs.Posts.{postIn, takenTo, ownChecks, postsOn}
 use Rattle.book.specs.Site.{Sound}
-use Rattle.book.proofs.answer.Laws.{accepts, declines, stays, was-accepted, was-declined}
-use Rattle.book.proofs.posts.Laws.{owned, own, own-declined, post-declined, all-taken, posts-sound}
+use Rattle.book.proofs.answer.Laws.{accepts, declines, stays, was-declined}
+use Rattle.book.proofs.posts.Laws.{owned, own, own-declined, post-declined, block-taken}
 use Rattle.book.proofs.posts.take_posts.Statement.{statement}
 use Rattle.book.proofs.posts.take_posts.Tie as tie
 
@@ -65,8 +65,8 @@ returns-2 c =
 enum-told-3 : tie.Need-enum-told-3
 enum-told-3 c = search needs
 
-add-c : tie.Need-add-c
-add-c c = search needs
+add-blocks : tie.Need-add-blocks
+add-blocks c = search needs
 
 returns-3 : tie.Need-returns-3
 returns-3 c =
@@ -74,10 +74,7 @@ returns-3 c =
     let s = k .before .before .before .before .before .before in
     let a = s .args in
     let t = c .before .before .before .before .take-run in
-    let e =
-    all-taken (a .b) (a .count) (now (a .body)) (passes k) (t .result .book)
-    (was-accepted (a .b) (takenTo (a .b) (postIn (now (a .body))) (a .count)) (t .result) (t .ensures .0) (c .before .before .enum-told3 .given .1)) in
-    (ap (outcome (a .b)) (sym e), posts-sound (a .b) _ (a .count) (now (a .body)) (s .pre) e)
+    block-taken (a .b) (a .count) (now (a .body)) (t .result) (s .pre) (passes k) (t .ensures .0) (c .before .before .enum-told3 .given .1)
 
 pub take-posts-spec : {M : Type 1} → statement M
 take-posts-spec =
@@ -92,5 +89,5 @@ take-posts-spec =
     enum-told-2
     returns-2
     enum-told-3
-    add-c
+    add-blocks
     returns-3)
