@@ -182,7 +182,6 @@ pub(crate) fn take_run(b: Book, s: &[u8], size: usize, n: usize) -> Answered
     let o = setup.outline;
     let numbers = setup.numbers;
     let counted = setup.counted;
-    let rates = setup.rates;
     let mut left = b;
     let mut i: usize = 0;
     while i < n {
@@ -203,6 +202,7 @@ pub(crate) fn take_run(b: Book, s: &[u8], size: usize, n: usize) -> Answered
                 left.posts = left.posts + 1;
                 i += 1;
                 if p.kind == 13 {
+                    let rates = setup.rates;
                     ledger::settle(&mut left.sums, rates);
                     left.closed = true;
                 } else {

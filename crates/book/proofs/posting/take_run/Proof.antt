@@ -18,20 +18,20 @@ use Rattle.book.proofs.posting.take_run.Statement.{statement}
 use Rattle.book.proofs.posting.take_run.Tie as tie
 
 abbrev Inv-loop : tie.InvT-loop
-Inv-loop b s size n o numbers counted rates left₀ i₀ left i = (i ≤ n) × (takenTo b (partOf size s) i ≡ taken left)
+Inv-loop b s size n setup o numbers counted left₀ i₀ left i = (i ≤ n) × (takenTo b (partOf size s) i ≡ taken left)
 
 abbrev μ-loop : tie.MeasureT-loop
-μ-loop b s size n o numbers counted rates left₀ i₀ left i = n - i
+μ-loop b s size n setup o numbers counted left₀ i₀ left i = n - i
 
 -- the part that a turn reads lies within the bytes
-fits : (c : tie.In-loop Inv-loop μ-loop) → let a = c .before .before .before .before .before .before .before .before .args in c .before .loop .i * a .size + a .size ≤ length (now (a .s))
+fits : (c : tie.In-loop Inv-loop μ-loop) → let a = c .before .before .before .before .before .before .before .args in c .before .loop .i * a .size + a .size ≤ length (now (a .s))
 fits c =
-    let s = c .before .before .before .before .before .before .before .before in
+    let s = c .before .before .before .before .before .before .before in
     part-fits (s .args .size) (c .before .loop .i) (s .args .n) (length (now (s .args .s))) (omega (arith, c .loop-test)) (s .pre .1)
 
 -- what a turn starts from
 abbrev start : tie.After-admit Inv-loop μ-loop → tie.Start Inv-loop μ-loop
-start c = c .before .before .before .before .before .before .before .before .before .before .before .before .before .before
+start c = c .before .before .before .before .before .before .before .before .before .before .before .before .before
 
 abbrev turn : tie.After-admit Inv-loop μ-loop → tie.At-loop Inv-loop μ-loop
 turn c = c .before .before .before .before .before .before .before
@@ -57,7 +57,7 @@ was-read : (c : tie.After-known-told2 Inv-loop μ-loop) → let q = at c in trie
 was-read c = sym (was-tried (at c)) ∙ ap readAnswer (c .before .a2 .given .1)
 
 loop-holds : tie.Need-loop-holds Inv-loop μ-loop
-loop-holds c = let a = c .before .before .before .before .before .before .args in (omega arith, none-yet (a .b) (partOf (a .size) (now (a .s))))
+loop-holds c = let a = c .before .before .before .before .before .args in (omega arith, none-yet (a .b) (partOf (a .size) (now (a .s))))
 
 mul-at : tie.Need-mul-at Inv-loop μ-loop
 mul-at c = omega (arith, fits c)
@@ -72,10 +72,10 @@ part-admit-start : tie.Need-part-admit-start Inv-loop μ-loop
 part-admit-start c = search needs
 
 part-admit-end : tie.Need-part-admit-end Inv-loop μ-loop
-part-admit-end c = fits (c .before .before .before .before)
+part-admit-end c = omega (arith, fits (c .before .before .before .before))
 
 admit-requires : tie.Need-admit-requires Inv-loop μ-loop
-admit-requires c κs = let u = c .before .before .before .before .before .before .before .before .before .before .before .before .before .pre .0 .setup in (u .substances-few, u .materials-few, u .stages-few)
+admit-requires c κs = let u = c .before .before .before .before .before .before .before .before .before .before .before .before .pre .0 .setup in (u .substances-few, u .materials-few, u .stages-few)
 
 enum-known-a : tie.Need-enum-known-a Inv-loop μ-loop
 enum-known-a c = search needs
@@ -108,7 +108,7 @@ add-i c = search needs
 
 settle-requires : tie.Need-settle-requires Inv-loop μ-loop
 settle-requires c κs =
-    let k = c .before .before .before .before in
+    let k = c .before .before .before .before .before in
     let q = at k in
     may-settle (start q .args .b) (posts-of q) (start q .pre .0) (turn q .loop .i) (turn q .loop .left) (turn q .loop .inv .1) (reading k) (was-read k)
 
@@ -117,9 +117,9 @@ loop-less c = search needs
 
 loop-again : tie.Need-loop-again Inv-loop μ-loop
 loop-again c =
-    let k = c .before .before .before .before .before in
+    let k = c .before .before .before .before .before .before in
     let q = at k in
-    (omega (arith, q .before .before .before .before .before .before .loop-test), turn-closed (start q .args .b) (posts-of q) (start q .pre .0) (turn q .loop .i) (turn q .loop .left) (turn q .loop .inv .1) (reading k) (was-read k) (c .before .before .if1 .taken) _ (c .settle .ensures))
+    (omega (arith, q .before .before .before .before .before .before .loop-test), turn-closed (start q .args .b) (posts-of q) (start q .pre .0) (turn q .loop .i) (turn q .loop .left) (turn q .loop .inv .1) (reading k) (was-read k) (c .before .before .before .if1 .taken) _ (c .settle .ensures))
 
 into-store-requires : tie.Need-into-store-requires Inv-loop μ-loop
 into-store-requires c κs =
@@ -150,7 +150,7 @@ loop-again-2 c =
 
 returns-2 : tie.Need-returns-2 Inv-loop μ-loop
 returns-2 c =
-    let s = c .before .before .before .before .before .before .before .before in
+    let s = c .before .before .before .before .before .before .before in
     let a = s .args in
     let k = c .before .loop in
     let posts = partOf (a .size) (now (a .s)) in
