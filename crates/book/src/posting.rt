@@ -182,40 +182,32 @@ pub(crate) fn take_run(b: Book, s: &[u8], size: usize, n: usize) -> Answered
     let o = setup.outline;
     let numbers = setup.numbers;
     let counted = setup.counted;
-    let mut left = b;
+    let mut c = b;
     let mut i: usize = 0;
     while i < n {
         let at = i * size;
-        let a = admit(
-            o,
-            &numbers,
-            left.closed,
-            left.posts,
-            &left.store,
-            &left.sums,
-            &s[at..at + size],
-        );
-        match a {
+        let part = &s[at..at + size];
+        match admit(o, &numbers, c.closed, c.posts, &c.store, &c.sums, part) {
             ReadingAnswer::Declined(d) => return answer::declined(b, d),
             ReadingAnswer::Read(r) => {
                 let p = r.post;
-                left.posts = left.posts + 1;
+                c.posts = c.posts + 1;
                 i += 1;
                 if p.kind == 13 {
                     let rates = setup.rates;
-                    ledger::settle(&mut left.sums, rates);
-                    left.closed = true;
+                    ledger::settle(&mut c.sums, rates);
+                    c.closed = true;
                 } else {
-                    into_store(&mut left.store, p);
-                    into_sums(&mut left.sums, &counted, p, r.amount);
-                    into_handled(&mut left.handled, &counted, p, r.amount);
+                    into_store(&mut c.store, p);
+                    into_sums(&mut c.sums, &counted, p, r.amount);
+                    into_handled(&mut c.handled, &counted, p, r.amount);
                 }
             }
         }
     }
     Answered {
         verdict: Verdict::Accepted,
-        book: left,
+        book: c,
     }
 }
 
