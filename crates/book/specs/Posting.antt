@@ -6,7 +6,7 @@ use mathlib.Core.List.{List, [], _∷_, _++_}
 use lib.Dec.{eqb, leb, ltb}
 use lib.ListN.{getD, set}
 use Rattle.amounts.specs.Decline as number
-use Rattle.amounts.specs.Decline.{Answer, taken, declined, Check, check, checked, isTaken}
+use Rattle.amounts.specs.Decline.{Answer, taken, declined, Check, check, checked, onTaken, isTaken}
 use Rattle.book.specs.Ledger.{held, accountOf, cellOf, cell, moved, raised, brings, settled}
 use Rattle.book.specs.Outline.{mayPost}
 use Rattle.book.specs.Post.{postAt, layoutFits, isVapour, isClose, floatsFit, kgFor, lossFor, amountOf}
@@ -65,6 +65,30 @@ applied b p n =
     (cond (leb (p .kind) 12) (transferred b (accountOf (p .kind)) (p .stage) (p .substance) n)
     (closedBook b))))
 
+-- ---- the same by the lists: what a post before the close makes of each
+
+-- the store
+unfoldable pub storeAfter : List ℕ → Post → List ℕ
+storeAfter store p =
+    cond (leb (p .kind) 2) (set store (p .material) (getD store (p .material) 0 + p .quantity))
+    (cond (eqb (p .kind) 3) (set store (p .material) (getD store (p .material) 0 - p .quantity))
+    store)
+
+-- the ledger's sums, with the contents as counted
+unfoldable pub sumsAfter : List ℕ → List ℕ → Post → ℕ → List ℕ
+sumsAfter sums counted p n =
+    cond (leb (p .kind) 2) sums
+    (cond (eqb (p .kind) 3) (raised (cellOf held (p .stage)) (brings counted (p .material) (p .quantity)) sums 8)
+    (cond (eqb (p .kind) 4) (set sums (cellOf held (p .stage) (p .substance)) (cell sums held (p .stage) (p .substance) + n))
+    (moved sums (cellOf held (p .stage) (p .substance)) (cellOf (accountOf (p .kind)) (p .stage) (p .substance)) n)))
+
+-- what was handled
+unfoldable pub handledAfter : List ℕ → List ℕ → Post → ℕ → List ℕ
+handledAfter handled counted p n =
+    cond (eqb (p .kind) 3) (raised (λ s. s) (brings counted (p .material) (p .quantity)) handled 8)
+    (cond (eqb (p .kind) 4) (set handled (p .substance) (getD handled (p .substance) 0 + n))
+    handled)
+
 -- ---- the checks
 
 -- 4 to 9: what the outline of the set-up, its management numbers and the post's own bytes tell
@@ -115,6 +139,14 @@ abbrev pub readAnswer : ReadingAnswer → Answer Reading
 readAnswer (read.Read r) = taken r
 readAnswer (read.Declined d) = declined (d .number)
 
+-- ---- a post as admitted: 4 to 11 passed
+
+unfoldable pub admitted : Outline → List ℕ → Bool → ℕ → List ℕ → List ℕ → List ℕ → Answer Reading
+unfolding checked readOf
+admitted o numbers closed posts store sums s =
+    onTaken (readOf o numbers closed s)
+    (λ r. checked (check (hasRoom posts (r .post)) number.full ∷ check (isThere store sums (r .post) (r .amount)) number.short ∷ []) r)
+
 -- ---- what passing the checks tells of a post that is applied
 
 pub record Applies (b : Book) (p : Post) (n : ℕ) : Type 0 where
@@ -130,3 +162,15 @@ pub record Applies (b : Book) (p : Post) (n : ℕ) : Type 0 where
   pub room : p .kind ≤ 12 → b .posts < 4000
   pub in-store : p .kind ≡ 3 → p .quantity ≤ getD (b .store) (p .material) 0
   pub in-holding : 5 ≤ p .kind → p .kind ≤ 12 → n ≤ cell (b .sums) held (p .stage) (p .substance)
+
+-- ---- what a list has room for
+
+-- a post before the close, within its limits, beside contents as counted
+pub record Entry (counted : List ℕ) (p : Post) (n : ℕ) : Type 0 where
+  pub kind : p .kind ≤ 12
+  pub material : p .kind ≤ 3 → p .material < 12
+  pub stage : p .stage < 8
+  pub substance : p .substance < 8
+  pub grams : p .kind ≤ 3 → p .quantity ≤ 2000000000
+  pub amount : n ≤ 2000000000000000
+  pub counted-small : (i : ℕ) → getD counted i 0 ≤ 1000000

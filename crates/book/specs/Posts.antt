@@ -13,6 +13,10 @@ use Rattle.book.specs.Setup.{within}
 use Rattle.book.specs.declared.outline.Outline.{Outline}
 use Rattle.book.specs.declared.site.Book.{Book}
 
+-- the ith of the parts of a size that bytes are made of, from 0
+abbrev pub partOf : ℕ → List ℕ → ℕ → List ℕ
+partOf size s i = take size (drop (i * size) s)
+
 -- the post at a place of the body, from 0
 abbrev pub postIn : List ℕ → ℕ → List ℕ
 postIn body i = take 48 (drop (i * 48) body)

@@ -1,10 +1,11 @@
-// A post on a book: read it, see that the book has what leaves it, and apply it.
+// Posts on a book: read each, see that the book has what leaves it, and enter it in the book's lists, which are lent.
 ghost use mathlib.Core.Path.{_≡_};
-ghost use Prim.Native.Nat.{_≤_, _<_};
-ghost use lib.ListN.{getD};
+ghost use Prim.Native.Nat.{ℕ, _*_, _^_, _≤_, _<_};
+ghost use lib.ListN.{length, getD};
 ghost use Rattle.book.specs.Answer.{outcome};
-ghost use Rattle.book.specs.Ledger.{held, cell};
-ghost use Rattle.book.specs.Posting.{received, issued, formed, transferred, closedBook, applied, hasRoom, isThere, postOn, readOf, readAnswer, Applies};
+ghost use Rattle.book.specs.Ledger.{held, cell, total};
+ghost use Rattle.book.specs.Posting.{storeAfter, sumsAfter, handledAfter, hasRoom, isThere, postOn, readOf, readAnswer, admitted, Entry};
+ghost use Rattle.book.specs.Posts.{partOf, takenTo};
 ghost use Rattle.book.specs.Site.{Sound};
 use crate::answer;
 use crate::answer::Answered;
@@ -84,92 +85,130 @@ fn is_there<'a>(store: &'a [u64; 12], sums: &'a [u64; 576], p: Post, amount: u64
     amount <= sums[HELD * 64 + pair]
 }
 
-fn receive(b: Book, material: usize, grams: u64) -> Book
-    requires { ⌜ Sound b ⌝ }
-    requires { ⌜ (material < 12) × (grams ≤ 2000000000) × (b .posts < 4000) ⌝ }
-    ensures { λ r. ⌜ r ≡ received b material grams ⌝ }
+// A post of any bytes that passes 4 to 11, by what a book holds.
+fn admit<'a>(
+    o: Outline,
+    numbers: &[u16; 8],
+    closed: bool,
+    posts: u32,
+    store: &'a [u64; 12],
+    sums: &'a [u64; 576],
+    s: &[u8],
+) -> ReadingAnswer
+    requires { ⌜ (o .substances ≤ 8) × (o .materials ≤ 12) × (o .stages ≤ 8) ⌝ }
+    ensures { λ r. ⌜ readAnswer r ≡ admitted o (now (numbers .entry)) closed posts (now (store .entry)) (now (sums .entry)) (now (s .entry)) ⌝ }
 {
-    let mut c = b;
-    c.store[material] = c.store[material] + grams;
-    c.posts = c.posts + 1;
-    c
+    match read(o, numbers, closed, s) {
+        ReadingAnswer::Declined(d) => ReadingAnswer::Declined(d),
+        ReadingAnswer::Read(r) => {
+            let p = r.post;
+            if !has_room(posts, p) {
+                return ReadingAnswer::Declined(decline::FULL);
+            }
+            if !is_there(store, sums, p, r.amount) {
+                return ReadingAnswer::Declined(decline::SHORT);
+            }
+            ReadingAnswer::Read(r)
+        }
+    }
 }
 
-fn issue(b: Book, material: usize, stage: usize, grams: u64) -> Book
-    requires { ⌜ Sound b ⌝ }
-    requires { ⌜ (material < 12) × (stage < 8) × (grams ≤ 2000000000) × (grams ≤ getD (b .store) material 0) × (b .posts < 4000) ⌝ }
-    ensures { λ r. ⌜ r ≡ issued b material stage grams ⌝ }
-{
-    let setup = b.setup;
-    let counted = setup.counted;
-    let mut c = b;
-    ledger::hold(&mut c.sums, &counted, material, stage, grams);
-    ledger::handle(&mut c.handled, &counted, material, grams);
-    c.store[material] = c.store[material] - grams;
-    c.posts = c.posts + 1;
-    c
-}
-
-fn form(b: Book, stage: usize, substance: usize, amount: u64) -> Book
-    requires { ⌜ Sound b ⌝ }
-    requires { ⌜ (stage < 8) × (substance < 8) × (amount ≤ 2000000000000000) × (b .posts < 4000) ⌝ }
-    ensures { λ r. ⌜ r ≡ formed b stage substance amount ⌝ }
-{
-    let at = HELD * 64 + (stage * 8 + substance);
-    let mut c = b;
-    c.sums[at] = c.sums[at] + amount;
-    c.handled[substance] = c.handled[substance] + amount;
-    c.posts = c.posts + 1;
-    c
-}
-
-fn transfer(b: Book, account: usize, stage: usize, substance: usize, amount: u64) -> Book
-    requires { ⌜ Sound b ⌝ }
-    requires { ⌜ (account < 9) × (stage < 8) × (substance < 8) × (amount ≤ cell (b .sums) held stage substance) × (b .posts < 4000) ⌝ }
-    ensures { λ r. ⌜ r ≡ transferred b account stage substance amount ⌝ }
-{
-    let pair = stage * 8 + substance;
-    let mut c = b;
-    ledger::shift(&mut c.sums, HELD * 64 + pair, account * 64 + pair, amount);
-    c.posts = c.posts + 1;
-    c
-}
-
-fn close(b: Book) -> Book
-    requires { ⌜ Sound b ⌝ }
-    ensures { λ r. ⌜ r ≡ closedBook b ⌝ }
-{
-    let setup = b.setup;
-    let rates = setup.rates;
-    let mut c = b;
-    ledger::settle(&mut c.sums, rates);
-    c.posts = c.posts + 1;
-    c.closed = true;
-    c
-}
-
-// What a post does that passed its checks.
-fn apply(b: Book, p: Post, amount: u64) -> Book
-    requires { ⌜ Sound b ⌝ }
-    requires { ⌜ Applies b p amount ⌝ }
-    ensures { λ r. ⌜ r ≡ applied b p amount ⌝ }
+// What a post before the close does to the store.
+fn into_store(store: &mut [u64; 12], p: Post)
+    requires { ⌜ (p .kind ≤ 3 → (p .material < 12) × (p .quantity ≤ 2000000000)) ⌝ }
+    requires { ⌜ ((m : ℕ) → m < 12 → getD (now store) m 0 ≤ 2 * 10 ^ 9 * 4000) ⌝ }
+    requires { ⌜ (p .kind ≡ 3 → p .quantity ≤ getD (now store) (p .material) 0) ⌝ }
+    ensures { λ r. ⌜ now (store .exit) ≡ storeAfter (now (store .entry)) p ⌝ }
 {
     let material = p.material as usize;
-    let stage = p.stage as usize;
-    let substance = p.substance as usize;
     if p.kind <= 2 {
-        return receive(b, material, p.quantity);
+        store[material] = store[material] + p.quantity;
+        return;
     }
     if p.kind == 3 {
-        return issue(b, material, stage, p.quantity);
+        store[material] = store[material] - p.quantity;
+    }
+}
+
+// To the ledger's sums: what is issued or formed comes to a holding, and what leaves one goes to its account.
+fn into_sums(sums: &mut [u64; 576], counted: &[u32; 96], p: Post, amount: u64)
+    requires { ⌜ Entry (now counted) p amount ⌝ }
+    requires { ⌜ length (now sums) ≡ 576 ⌝ }
+    requires { ⌜ ((s : ℕ) → s < 8 → total (now sums) s ≤ 2 * 10 ^ 15 * 4000) ⌝ }
+    requires { ⌜ (5 ≤ p .kind → amount ≤ cell (now sums) held (p .stage) (p .substance)) ⌝ }
+    ensures { λ r. ⌜ now (sums .exit) ≡ sumsAfter (now (sums .entry)) (now (counted .entry)) p amount ⌝ }
+{
+    if p.kind <= 2 {
+        return;
+    }
+    let stage = p.stage as usize;
+    if p.kind == 3 {
+        ledger::hold(sums, counted, p.material as usize, stage, p.quantity);
+        return;
+    }
+    let pair = stage * 8 + (p.substance as usize);
+    let at = HELD * 64 + pair;
+    if p.kind == 4 {
+        sums[at] = sums[at] + amount;
+        return;
+    }
+    ledger::shift(sums, at, ((p.kind as usize) - 4) * 64 + pair, amount);
+}
+
+// And to what was handled.
+fn into_handled(handled: &mut [u64; 8], counted: &[u32; 96], p: Post, amount: u64)
+    requires { ⌜ Entry (now counted) p amount ⌝ }
+    requires { ⌜ ((s : ℕ) → s < 8 → getD (now handled) s 0 ≤ 2 * 10 ^ 15 * 4000) ⌝ }
+    ensures { λ r. ⌜ now (handled .exit) ≡ handledAfter (now (handled .entry)) (now (counted .entry)) p amount ⌝ }
+{
+    if p.kind == 3 {
+        ledger::handle(handled, counted, p.material as usize, p.quantity);
+        return;
     }
     if p.kind == 4 {
-        return form(b, stage, substance, amount);
+        let substance = p.substance as usize;
+        handled[substance] = handled[substance] + amount;
     }
-    if p.kind <= 12 {
-        return transfer(b, (p.kind as usize) - 4, stage, substance, amount);
+}
+
+// The first n posts of the bytes, each of the given size and tried on the book that the earlier ones left. A decline has the book given in.
+pub(crate) fn take_run(b: Book, s: &[u8], size: usize, n: usize) -> Answered
+    requires { ⌜ Sound b ⌝ }
+    requires { ⌜ n * size ≤ length (now s) ⌝ }
+    ensures { λ r. ⌜ r ≡ outcome b (takenTo b (partOf size (now (s .entry))) n) ⌝ }
+    ensures { λ r. ⌜ Sound (r .book) ⌝ }
+{
+    let setup = b.setup;
+    let o = setup.outline;
+    let numbers = setup.numbers;
+    let counted = setup.counted;
+    let mut c = b;
+    let mut i: usize = 0;
+    while i < n {
+        let at = i * size;
+        let part = &s[at..at + size];
+        match admit(o, &numbers, c.closed, c.posts, &c.store, &c.sums, part) {
+            ReadingAnswer::Declined(d) => return answer::declined(b, d),
+            ReadingAnswer::Read(r) => {
+                let p = r.post;
+                c.posts = c.posts + 1;
+                i += 1;
+                if p.kind == 13 {
+                    let rates = setup.rates;
+                    ledger::settle(&mut c.sums, rates);
+                    c.closed = true;
+                } else {
+                    into_store(&mut c.store, p);
+                    into_sums(&mut c.sums, &counted, p, r.amount);
+                    into_handled(&mut c.handled, &counted, p, r.amount);
+                }
+            }
+        }
     }
-    close(b)
+    Answered {
+        verdict: Verdict::Accepted,
+        book: c,
+    }
 }
 
 // One post of any bytes.
@@ -178,23 +217,5 @@ pub fn take_post(b: Book, s: &[u8]) -> Answered
     ensures { λ r. ⌜ r ≡ outcome b (postOn b (now (s .entry))) ⌝ }
     ensures { λ r. ⌜ Sound (r .book) ⌝ }
 {
-    let setup = b.setup;
-    let numbers = setup.numbers;
-    let o = setup.outline;
-    match read(o, &numbers, b.closed, s) {
-        ReadingAnswer::Declined(d) => answer::declined(b, d),
-        ReadingAnswer::Read(r) => {
-            let p = r.post;
-            if !has_room(b.posts, p) {
-                return answer::declined(b, decline::FULL);
-            }
-            if !is_there(&b.store, &b.sums, p, r.amount) {
-                return answer::declined(b, decline::SHORT);
-            }
-            Answered {
-                verdict: Verdict::Accepted,
-                book: apply(b, p, r.amount),
-            }
-        }
-    }
+    take_run(b, s, s.len(), 1)
 }

@@ -1,10 +1,8 @@
 // Kind 3: the posts of a block, taken whole or not at all.
 ghost use mathlib.Core.Path.{_≡_};
-ghost use Prim.Native.Nat.{_*_, _≤_};
-ghost use lib.ListN.{length};
 ghost use Rattle.amounts.specs.Decline.{checked};
 ghost use Rattle.book.specs.Answer.{verdictOf, outcome};
-ghost use Rattle.book.specs.Posts.{postIn, takenTo, ownChecks, postsOn};
+ghost use Rattle.book.specs.Posts.{ownChecks, postsOn};
 ghost use Rattle.book.specs.Site.{Sound};
 use crate::answer;
 use crate::answer::Answered;
@@ -16,32 +14,6 @@ use crate::posting;
 use crate::setup;
 use crate::site::Book;
 use amounts::decline;
-
-// Each post is tried on the book that the earlier ones left. Beside a decline stands the book so far: only `take_posts` restores the one given in.
-fn take_all(b: Book, body: &[u8], n: usize) -> Answered
-    requires { ⌜ Sound b ⌝ }
-    requires { ⌜ n * 48 ≤ length (now body) ⌝ }
-    ensures { λ r. ⌜ r ≡ outcome (r .book) (takenTo b (postIn (now (body .entry))) n) ⌝ }
-    ensures { λ r. ⌜ Sound (r .book) ⌝ }
-{
-    let mut left = b;
-    let mut i: usize = 0;
-    while i < n {
-        let at = i * 48;
-        let a = posting::take_post(left, &body[at..at + 48]);
-        let v = a.verdict;
-        if let Verdict::Declined(_) = v {
-            return a;
-        }
-        let next = a.book;
-        left = next;
-        i += 1;
-    }
-    Answered {
-        verdict: Verdict::Accepted,
-        book: left,
-    }
-}
 
 fn check_posts(o: Outline, closed: bool, count: u8, body: &[u8]) -> Verdict
     ensures { λ r. ⌜ r ≡ verdictOf (checked (ownChecks o closed count (now (body .entry))) (tt {0})) ⌝ }
@@ -76,15 +48,12 @@ pub fn take_posts(b: Book, count: u8, body: &[u8]) -> Answered
     if let Verdict::Declined(d) = check_posts(o, b.closed, count, body) {
         return answer::declined(b, d);
     }
-    let a = take_all(b, body, count as usize);
+    let mut a = posting::take_run(b, body, 48, count as usize);
     let v = a.verdict;
-    let mut c = a.book;
-    if let Verdict::Declined(first) = v {
-        return answer::declined(b, first);
+    if let Verdict::Declined(_) = v {
+        return a;
     }
-    c.blocks = c.blocks + 1;
-    Answered {
-        verdict: Verdict::Accepted,
-        book: c,
-    }
+    let blocks = b.blocks + 1;
+    a.book.blocks = blocks;
+    a
 }

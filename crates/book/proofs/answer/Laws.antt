@@ -73,10 +73,6 @@ pub stays : (P : Book → Type 0) (given : Book) (x : Answer Book) (n : ℕ) (r 
     → (r ≡ outcome given x) × P (r .book)
 stays P given x n r is e p = (e ∙ ap (outcome given) (sym is), subst (λ (y : Answered). P (y .book)) (sym e) p)
 
--- a decline is the answer, whatever book stands beside it
-pub beside : (x : Answer Book) (r : Answered) (d : Decline) → x ≡ declined (d .number) → r .verdict ≡ Declined d → r ≡ outcome (r .book) x
-beside x r d is v = ap (λ (w : Verdict). record { verdict = w; book = r .book }) v ∙ ap (outcome (r .book)) (sym is)
-
 pub refuses : (P : Book → Type 0) (given b : Book) (rows : List Check) (v : Verdict) (d : Decline) (r : Answered) → v ≡ verdictOf (checked rows (tt {0})) → v ≡ Declined d
     → r ≡ outcome given (declined (d .number)) → P given → (r ≡ outcome given (checked rows b)) × P (r .book)
 refuses P given b rows v d r told is e p = stays P given (checked rows b) (d .number) r (declines (tt {0}) b rows d (sym is ∙ told)) e p

@@ -12,7 +12,7 @@ use Rattle.amounts.proofs.decline.Laws.{was-taken}
 use Rattle.book.specs.Ledger.{held, cell}
 use Rattle.book.specs.Outline.{mayPost}
 use Rattle.book.specs.Post.{postAt, layoutFits, floatsFit, lossFor, lossOver, floatsOf, amountWith, amountOf}
-use Rattle.book.specs.Posting.{applied, readChecks, hasRoom, isThere, bookChecks, postOn, readOf, Applies}
+use Rattle.book.specs.Posting.{applied, readChecks, hasRoom, isThere, bookChecks, postOn, readOf, admitted, Applies}
 use Rattle.book.specs.Site.{Sound}
 use Rattle.book.specs.declared.outline.Outline.{Outline}
 use Rattle.book.specs.declared.post.Post.{Post}
@@ -107,7 +107,7 @@ module _ (b : Book) (s : List ℕ) where
       (after asked)
       _
 
-  pub post-declined : (n : ℕ) → reads ≡ declined n → postOn b s ≡ declined n
+  post-declined : (n : ℕ) → reads ≡ declined n → postOn b s ≡ declined n
   post-declined n e = post-is ∙ rw e
 
   -- what holds of the post asked holds of it as read
@@ -115,15 +115,7 @@ module _ (b : Book) (s : List ℕ) where
     as-read : (P : Reading → Type 0) → P asked → P r
     as-read P h = subst P (sym (was-read (b .setup .outline) (b .setup .numbers) (b .closed) s r e .1)) h
 
-    pub post-full : room r ≡ false → postOn b s ≡ declined 10
-    unfolding checked
-    post-full = as-read (λ x. room x ≡ false → postOn b s ≡ declined 10) (λ f. post-is ∙ rw (e, f))
-
-    pub post-short : room r ≡ true → there r ≡ false → postOn b s ≡ declined 11
-    unfolding checked
-    post-short = as-read (λ x. room x ≡ true → there x ≡ false → postOn b s ≡ declined 11) (λ f g. post-is ∙ rw (e, f, g))
-
-    pub post-taken : room r ≡ true → there r ≡ true → postOn b s ≡ taken (after r)
+    post-taken : room r ≡ true → there r ≡ true → postOn b s ≡ taken (after r)
     unfolding checked
     post-taken = as-read (λ x. room x ≡ true → there x ≡ true → postOn b s ≡ taken (after x)) (λ f g. post-is ∙ rw (e, f, g))
 
@@ -142,37 +134,47 @@ on-there store sums p n h = (
 on-room : (posts : ℕ) (p : Post) → hasRoom posts p ≡ true → p .kind ≤ 12 → posts < 4000
 on-room posts p h l = ltb-true posts 4000 (rw (ne-eqb (p .kind) 13 (λ e. absurd (omega arith))) at h)
 
+-- ---- what reading a post tells of its places
+
+module _ (o : Outline) (numbers : List ℕ) (closed : Bool) (s : List ℕ) (few : (o .substances ≤ 8) × (o .materials ≤ 12) × (o .stages ≤ 8)) (r : Reading) (e : readOf o numbers closed s ≡ taken r) where
+  passes : AllPass (readChecks o numbers closed s)
+  passes = was-read o numbers closed s r e .0
+
+  told : Laid o s
+  told = laid o s (passes .1 .1 .0)
+
+  placed : (postAt s .kind ≤ 3 → postAt s .material < 12) × (postAt s .stage < 8) × (postAt s .substance < 8)
+  placed =
+      let k = told .bounded in
+      (λ m. omega (arith, k .material m, few), omega (arith, k .stage, few), omega (arith, k .substance, few))
+
+  -- where a post that was read leaves a store or a holding, a book has the place
+  pub in-place : (r .post .kind ≡ 3 → r .post .material < 12) × (r .post .stage < 8) × (r .post .substance < 8)
+  in-place =
+      subst (λ (x : Reading). (x .post .kind ≡ 3 → x .post .material < 12) × (x .post .stage < 8) × (x .post .substance < 8))
+      (sym (was-read o numbers closed s r e .1))
+      (λ k. placed .0 (omega arith), placed .1, placed .2)
+
 module _ (b : Book) (s : List ℕ) (sound : Sound b) where
+  few-of : (b .setup .outline .substances ≤ 8) × (b .setup .outline .materials ≤ 12) × (b .setup .outline .stages ≤ 8)
+  few-of = (sound .setup .substances-few, sound .setup .materials-few, sound .setup .stages-few)
+
   module _ (r : Reading) (e : reads b s ≡ taken r) where
-    passes : AllPass (readChecks (b .setup .outline) (b .setup .numbers) (b .closed) s)
-    passes = was-read (b .setup .outline) (b .setup .numbers) (b .closed) s r e .0
-
-    told : Laid (b .setup .outline) s
-    told = laid (b .setup .outline) s (passes .1 .1 .0)
-
-    placed : (postAt s .kind ≤ 3 → postAt s .material < 12) × (postAt s .stage < 8) × (postAt s .substance < 8)
-    placed =
-        let k = told .bounded in
-        let u = sound .setup in
-        (λ m. omega (arith, k .material m, u .materials-few), omega (arith, k .stage, u .stages-few), omega (arith, k .substance, u .substances-few))
-
-    -- where a post that was read leaves a store or a holding, the book has the place
-    pub in-place : (r .post .kind ≡ 3 → r .post .material < 12) × (r .post .stage < 8) × (r .post .substance < 8)
-    in-place =
-        as-read b s r e (λ x. (x .post .kind ≡ 3 → x .post .material < 12) × (x .post .stage < 8) × (x .post .substance < 8))
-        (λ k. placed .0 (omega arith), placed .1, placed .2)
-
     applies-asked : room b s (asked b s) ≡ true → there b s (asked b s) ≡ true → Applies b (postAt s) (asked b s .amount)
     applies-asked f g =
-        let k = told .bounded in
+        let u = b .setup in
+        let pass = passes (u .outline) (u .numbers) (b .closed) s few-of r e in
+        let lies = told (u .outline) (u .numbers) (b .closed) s few-of r e in
+        let place = placed (u .outline) (u .numbers) (b .closed) s few-of r e in
+        let k = lies .bounded in
         let h = on-there (b .store) (b .sums) (postAt s) (asked b s .amount) g in
         record {
-          in-turn = passes .0;
-          is-open = not-true (b .closed) (passes .1 .0);
-          kind = told .kind;
-          material = placed .0;
-          stage = placed .1;
-          substance = placed .2;
+          in-turn = pass .0;
+          is-open = not-true (b .closed) (pass .1 .0);
+          kind = lies .kind;
+          material = place .0;
+          stage = place .1;
+          substance = place .2;
           grams = k .grams;
           amount = amount-small (b .setup .outline) (b .setup .numbers) (postAt s) k;
           formed = amount-formed (b .setup .numbers) (postAt s);
@@ -181,7 +183,7 @@ module _ (b : Book) (s : List ℕ) (sound : Sound b) where
           in-holding = h .1;
         }
 
-    pub applies : room b s r ≡ true → there b s r ≡ true → Applies b (r .post) (r .amount)
+    applies : room b s r ≡ true → there b s r ≡ true → Applies b (r .post) (r .amount)
     applies = as-read b s r e (λ x. room b s x ≡ true → there b s x ≡ true → Applies b (x .post) (x .amount)) applies-asked
 
   pub post-was-taken : (c : Book) → postOn b s ≡ taken c
@@ -191,3 +193,72 @@ module _ (b : Book) (s : List ℕ) (sound : Sound b) where
       let z = was-taken (reads b s) (λ _. checked rows (after b s (asked b s))) c (sym (post-is b s) ∙ e) in
       let y = passed rows (after b s (asked b s)) c (z .2) in
       (applies-asked (z .0) (z .1) (y .0 .0) (y .0 .1 .0), y .1)
+
+-- ---- 4 to 11
+
+module _ (o : Outline) (numbers : List ℕ) (closed : Bool) (posts : ℕ) (store sums s : List ℕ) where
+  abbrev admits : Answer Reading
+  admits = admitted o numbers closed posts store sums s
+
+  pub unread : (n : ℕ) → readOf o numbers closed s ≡ declined n → declined n ≡ admits
+  unfolding admitted
+  unread n e = rw e
+
+  module _ (r : Reading) (e : readOf o numbers closed s ≡ taken r) where
+    pub no-room : hasRoom posts (r .post) ≡ false → declined 10 ≡ admits
+    unfolding admitted
+    no-room f = rw (e, f)
+
+    module _ (f : hasRoom posts (r .post) ≡ true) where
+      pub too-little : isThere store sums (r .post) (r .amount) ≡ false → declined 11 ≡ admits
+      unfolding admitted
+      too-little g = rw (e, f, g)
+
+      pub all-there : isThere store sums (r .post) (r .amount) ≡ true → taken r ≡ admits
+      unfolding admitted
+      all-there g = rw (e, f, g)
+
+same-decline : {A B : Type 0} (rows : List Check) (a : A) (b : B) (n : ℕ) → checked rows a ≡ declined n → checked rows b ≡ declined n
+unfolding checked
+same-decline [] a b n e = let z : _≡_ {A = ℕ} 0 1 = cc in absurd (omega arith)
+same-decline (check true m ∷ rows) a b n e = same-decline rows a b n e
+same-decline (check false m ∷ rows) a b n e = cc
+
+module _ (b : Book) (s : List ℕ) where
+  abbrev pub asks : Answer Reading
+  asks = admitted (b .setup .outline) (b .setup .numbers) (b .closed) (b .posts) (b .store) (b .sums) s
+
+  abbrev rows : Reading → List Check
+  rows r = bookChecks b (r .post) (r .amount)
+
+  asks-is : asks ≡ onTaken (reads b s) (λ r. checked (rows r) r)
+  unfolding admitted
+  asks-is = refl
+
+  -- a post that isn't admitted is declined
+  pub not-admitted : (n : ℕ) → asks ≡ declined n → postOn b s ≡ declined n
+  not-admitted n h = go (reads b s) refl (sym asks-is ∙ h)
+    where
+      go : (x : Answer Reading) → reads b s ≡ x → onTaken x (λ r. checked (rows r) r) ≡ declined n → postOn b s ≡ declined n
+      go (declined m) e q = post-declined b s m e ∙ q'
+        where
+          q' : _≡_ {A = Answer Book} (declined m) (declined n)
+          q' = cc
+      go (taken r) e q =
+          as-read b s r e (λ x. checked (rows x) x ≡ declined n → postOn b s ≡ declined n)
+          (λ w. post-is b s ∙ ap (λ (y : Answer Reading). onTaken y (λ _. checked (rows (asked b s)) (after b s (asked b s)))) e ∙ same-decline (rows (asked b s)) (asked b s) (after b s (asked b s)) n w)
+          q
+
+  -- one that is admitted was read, and passed 10 and 11
+  as-admitted : (r : Reading) → asks ≡ taken r → (reads b s ≡ taken r) × (room b s r ≡ true) × (there b s r ≡ true)
+  as-admitted r h =
+      let z = was-taken (reads b s) (λ x. checked (rows x) x) r (sym asks-is ∙ h) in
+      let y = passed (rows (z .0)) (z .0) r (z .2) in
+      subst (λ (x : Reading). (reads b s ≡ taken x) × (room b s x ≡ true) × (there b s x ≡ true)) (sym (y .1)) (z .1, y .0 .0, y .0 .1 .0)
+
+  -- so that it is taken
+  pub was-admitted : (r : Reading) → asks ≡ taken r → postOn b s ≡ taken (applied b (r .post) (r .amount))
+  was-admitted r h = let z = as-admitted r h in post-taken b s r (z .0) (z .1) (z .2)
+
+  pub admitted-applies : Sound b → (r : Reading) → asks ≡ taken r → Applies b (r .post) (r .amount)
+  admitted-applies sound r h = let z = as-admitted r h in applies b s sound r (z .0) (z .1) (z .2)

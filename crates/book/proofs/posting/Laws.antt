@@ -13,7 +13,7 @@ use lib.Seq.{getD-set-same, getD-set-other}
 use Rattle.book.specs.Entered.{forms, enters, handles}
 use Rattle.book.specs.Ledger.{held, accountOf, cellOf, cell, total, moved, raised, brings, settled}
 use Rattle.book.specs.Outline.{mayPost}
-use Rattle.book.specs.Posting.{withPost, received, issued, formed, transferred, closedBook, applied, Applies}
+use Rattle.book.specs.Posting.{withPost, received, issued, formed, transferred, closedBook, applied, storeAfter, sumsAfter, handledAfter, Applies, Entry}
 use Rattle.book.specs.Site.{Sound, storedTo, content}
 use Rattle.book.specs.declared.post.Post.{Post}
 use Rattle.book.specs.declared.site.Book.{Book}
@@ -44,6 +44,64 @@ module _ (b : Book) (p : Post) (n : ℕ) where
   unfolding applied
   applied-close h =
       rw (lt-leb (p .kind) 2 (omega arith), ne-eqb (p .kind) 3 (λ e. omega arith), ne-eqb (p .kind) 4 (λ e. omega arith), lt-leb (p .kind) 12 h)
+
+-- ---- the lists that a post leaves, by kind
+
+module _ (store : List ℕ) (p : Post) where
+  pub store-received : p .kind ≤ 2 → set store (p .material) (getD store (p .material) 0 + p .quantity) ≡ storeAfter store p
+  unfolding storeAfter
+  store-received h = rw (le-leb (p .kind) 2 h)
+
+  pub store-issued : p .kind ≡ 3 → set store (p .material) (getD store (p .material) 0 - p .quantity) ≡ storeAfter store p
+  unfolding storeAfter
+  store-issued h = rw (lt-leb (p .kind) 2 (omega arith), eq-eqb (p .kind) 3 h)
+
+  pub store-left : 2 < p .kind → (p .kind ≡ 3 → ⊥) → store ≡ storeAfter store p
+  unfolding storeAfter
+  store-left h g = rw (lt-leb (p .kind) 2 h, ne-eqb (p .kind) 3 g)
+
+module _ (sums counted : List ℕ) (p : Post) (n : ℕ) where
+  pub sums-left : p .kind ≤ 2 → sums ≡ sumsAfter sums counted p n
+  unfolding sumsAfter
+  sums-left h = rw (le-leb (p .kind) 2 h)
+
+  pub sums-issued : p .kind ≡ 3 → raised (cellOf held (p .stage)) (brings counted (p .material) (p .quantity)) sums 8 ≡ sumsAfter sums counted p n
+  unfolding sumsAfter
+  sums-issued h = rw (lt-leb (p .kind) 2 (omega arith), eq-eqb (p .kind) 3 h)
+
+  pub sums-formed : p .kind ≡ 4 → set sums (cellOf held (p .stage) (p .substance)) (cell sums held (p .stage) (p .substance) + n) ≡ sumsAfter sums counted p n
+  unfolding sumsAfter
+  sums-formed h = rw (lt-leb (p .kind) 2 (omega arith), ne-eqb (p .kind) 3 (λ e. omega arith), eq-eqb (p .kind) 4 h)
+
+  pub sums-moved : 4 < p .kind → moved sums (cellOf held (p .stage) (p .substance)) (cellOf (accountOf (p .kind)) (p .stage) (p .substance)) n ≡ sumsAfter sums counted p n
+  unfolding sumsAfter
+  sums-moved h = rw (lt-leb (p .kind) 2 (omega arith), ne-eqb (p .kind) 3 (λ e. omega arith), ne-eqb (p .kind) 4 (λ e. omega arith))
+
+module _ (handled counted : List ℕ) (p : Post) (n : ℕ) where
+  pub handled-issued : p .kind ≡ 3 → raised (λ s. s) (brings counted (p .material) (p .quantity)) handled 8 ≡ handledAfter handled counted p n
+  unfolding handledAfter
+  handled-issued h = rw (eq-eqb (p .kind) 3 h)
+
+  pub handled-formed : p .kind ≡ 4 → set handled (p .substance) (getD handled (p .substance) 0 + n) ≡ handledAfter handled counted p n
+  unfolding handledAfter
+  handled-formed h = rw (ne-eqb (p .kind) 3 (λ e. omega arith), eq-eqb (p .kind) 4 h)
+
+  pub handled-left : (p .kind ≡ 3 → ⊥) → (p .kind ≡ 4 → ⊥) → handled ≡ handledAfter handled counted p n
+  unfolding handledAfter
+  handled-left h g = rw (ne-eqb (p .kind) 3 h, ne-eqb (p .kind) 4 g)
+
+-- a post before the close changes the three lists and counts itself
+pub applied-lists : (b : Book) (p : Post) (n : ℕ) → p .kind ≤ 12
+    → applied b p n ≡ withPost b (storeAfter (b .store) p) (sumsAfter (b .sums) (b .setup .counted) p n) (handledAfter (b .handled) (b .setup .counted) p n) (b .closed)
+unfolding applied storeAfter sumsAfter handledAfter
+applied-lists b p n h = go (decLe (p .kind) 2) (ℕ-discrete (p .kind) 3) (ℕ-discrete (p .kind) 4)
+  where
+    go : Dec (p .kind ≤ 2) → Dec (p .kind ≡ 3) → Dec (p .kind ≡ 4)
+        → applied b p n ≡ withPost b (storeAfter (b .store) p) (sumsAfter (b .sums) (b .setup .counted) p n) (handledAfter (b .handled) (b .setup .counted) p n) (b .closed)
+    go (yes e) k l = rw (le-leb (p .kind) 2 e, ne-eqb (p .kind) 3 (λ q. omega arith), ne-eqb (p .kind) 4 (λ q. omega arith))
+    go (no d) (yes e) l = rw (lt-leb (p .kind) 2 (omega arith), eq-eqb (p .kind) 3 e)
+    go (no d) (no k) (yes e) = rw (lt-leb (p .kind) 2 (omega arith), ne-eqb (p .kind) 3 k, eq-eqb (p .kind) 4 e)
+    go (no d) (no k) (no l) = rw (lt-leb (p .kind) 2 (omega arith), ne-eqb (p .kind) 3 k, ne-eqb (p .kind) 4 l, le-leb (p .kind) 12 h)
 
 -- ---- what enters and what is handled, by kind
 
@@ -104,6 +162,9 @@ bounded-set l i v most hi h hv j hj = go (ℕ-discrete j i)
 
 -- ---- what a sound book has room for
 
+pub brings-small : (counted : List ℕ) (m g s : ℕ) → ((i : ℕ) → getD counted i 0 ≤ 1000000) → g ≤ 2000000000 → brings counted m g s ≤ 2 * 10 ^ 15
+brings-small counted m g s few hg = mul-le-mul {m₂ = 1000000} hg (few (m * 8 + s))
+
 module _ (b : Book) (h : Sound b) where
   pub total-few : (s : ℕ) → s < 8 → total (b .sums) s ≤ 2 * 10 ^ 15 * b .posts
   total-few s hs = omega (arith, h .bounded s hs)
@@ -115,7 +176,7 @@ module _ (b : Book) (h : Sound b) where
   handled-few s hs = omega (arith, total-few s hs, h .weighed s hs)
 
   pub brings-few : (m g s : ℕ) → g ≤ 2000000000 → brings (b .setup .counted) m g s ≤ 2 * 10 ^ 15
-  brings-few m g s hg = mul-le-mul {m₂ = 1000000} hg (h .setup .counted-small (m * 8 + s))
+  brings-few m g s hg = brings-small (b .setup .counted) m g s (h .setup .counted-small) hg
 
 -- ---- the step
 
@@ -303,3 +364,16 @@ applied-step b p n h a = go (decLe (p .kind) 2) (ℕ-discrete (p .kind) 3) (ℕ-
         (length-settled (b .sums) (b .setup .rates) 64 ∙ h .sums-long)
         (λ s hs. total-settled (b .sums) (b .setup .rates) 64 s (omega arith) hs (h .sums-long))
         (λ e. absurd (true≢false e)))
+
+-- what lets a post into the lists of a sound book
+pub entry-of : (b : Book) (p : Post) (n : ℕ) → Sound b → Applies b p n → p .kind ≤ 12 → Entry (b .setup .counted) p n
+entry-of b p n h a k =
+    record {
+      kind = k;
+      material = a .material;
+      stage = a .stage;
+      substance = a .substance;
+      grams = a .grams;
+      amount = a .amount;
+      counted-small = h .setup .counted-small;
+    }

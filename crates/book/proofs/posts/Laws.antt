@@ -7,7 +7,7 @@ use native.Mathlib.Decide.{ℕ-discrete}
 use native.Mathlib.Numerals.{add-one}
 use native.Mathlib.Omega.{arith}
 use borrow.Author.Tests.{eqb-true, not-true}
-use lib.ListN.{length, getD, take, drop}
+use lib.ListN.{length, getD}
 use Rattle.amounts.specs.Decline.{Answer, taken, declined, checked, onTaken}
 use Rattle.amounts.proofs.decline.Laws.{was-taken}
 use Rattle.book.specs.Answer.{outcome}
@@ -18,17 +18,17 @@ use Rattle.book.specs.Post.{postAt}
 use Rattle.book.specs.Posting.{postOn}
 use Rattle.book.specs.Posts.{postIn, takenTo, ownChecks, postsOn, withBlock}
 use Rattle.book.specs.Site.{Sound, content}
+use Rattle.book.specs.declared.answer.Answered.{Answered}
+use Rattle.book.specs.declared.answer.Verdict.{Verdict}
+use Rattle.book.specs.declared.answer.Verdict.the-variants.{Accepted}
 use Rattle.book.specs.declared.outline.Outline.{Outline}
 use Rattle.book.specs.declared.site.Book.{Book}
 use Rattle.book.specs.declared.site.Setup.{Setup}
 use Rattle.book.proofs.Each.{sum-again, sum-none}
+use Rattle.book.proofs.answer.Laws.{was-accepted}
 use Rattle.book.proofs.posting.Checks.{passed, post-was-taken}
 use Rattle.book.proofs.posting.Laws.{Step, applied-step}
 use Rattle.book.proofs.setup.Laws.{within-true}
-
--- what `&body[at..at + 48]` is, from the ith post's first byte
-pub post-in : (i : ℕ) (body : List ℕ) → take (i * 48 + 48 - i * 48) (drop (i * 48) body) ≡ postIn body i
-post-in i body = let e : i * 48 + 48 - i * 48 ≡ 48 = omega arith in ap (λ (n : ℕ). take n (drop (i * 48) body)) e
 
 -- ---- posts in turn
 
@@ -205,6 +205,33 @@ posts-sound b c count body h e =
     subst Sound (sym (z .2))
     (sound-block (z .0) (m .sound)
     (subst (λ (u : Setup). z .0 .blocks + 1 ≤ min (u .outline .substances) 1 + u .outline .described + z .0 .posts) (sym (m .same-setup)) few))
+
+-- the block counted on from the book given in, since posts leave the count of blocks as it is
+abbrev numbered : Book → ℕ → Book
+numbered b k =
+    record {
+      setup = b .setup;
+      store = b .store;
+      sums = b .sums;
+      handled = b .handled;
+      posts = b .posts;
+      blocks = k;
+      closed = b .closed;
+    }
+
+pub block-taken : (b : Book) (count : ℕ) (body : List ℕ) (r : Answered) → Sound b → owned b count body ≡ taken count
+    → r ≡ outcome b (takenTo b (postIn body) count) → r .verdict ≡ Accepted
+    → (record { verdict = r .verdict; book = numbered (r .book) (b .blocks + 1) } ≡ outcome b (postsOn b count body)) × Sound (numbered (r .book) (b .blocks + 1))
+block-taken b count body r h passes e v =
+    let so = was-accepted b (takenTo b (postIn body) count) r e v in
+    let is = all-taken b count body passes (r .book) so in
+    let same : numbered (r .book) (b .blocks + 1) ≡ withBlock (r .book) =
+    ap (λ (k : ℕ). numbered (r .book) (k + 1)) (sym (many-taken b (r .book) (postIn body) count h so .same-blocks)) in (
+      ap (λ (w : Verdict). record { verdict = w; book = numbered (r .book) (b .blocks + 1) }) v
+          ∙ ap (λ (x : Book). record { verdict = Accepted; book = x }) same
+          ∙ ap (outcome b) (sym is),
+      subst Sound (sym same) (posts-sound b (withBlock (r .book)) count body h is),
+    )
 
 -- ---- every call
 

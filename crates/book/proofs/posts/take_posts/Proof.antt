@@ -6,8 +6,8 @@ use Rattle.amounts.specs.Decline.{taken}
 use Rattle.book.specs.Answer.{outcome}
 use Rattle.book.specs.Posts.{postIn, takenTo, ownChecks, postsOn}
 use Rattle.book.specs.Site.{Sound}
-use Rattle.book.proofs.answer.Laws.{accepts, declines, stays, was-accepted, was-declined}
-use Rattle.book.proofs.posts.Laws.{owned, own, own-declined, post-declined, all-taken, posts-sound}
+use Rattle.book.proofs.answer.Laws.{accepts, declines, stays, was-declined}
+use Rattle.book.proofs.posts.Laws.{owned, own, own-declined, post-declined, block-taken}
 use Rattle.book.proofs.posts.take_posts.Statement.{statement}
 use Rattle.book.proofs.posts.take_posts.Tie as tie
 
@@ -39,48 +39,42 @@ returns c =
 enum-told : tie.Need-enum-told
 enum-told c = search needs
 
-take-all-requires : tie.Need-take-all-requires
-take-all-requires c κs =
+take-run-requires : tie.Need-take-run-requires
+take-run-requires c κs =
     let s = c .before .before .before .before .before .before in
     let a = s .args in
     let k = own (a .b .setup .outline) (a .b .closed) (a .count) (a .count) (now (a .body)) (passes c) .0 in
     (s .pre, omega (arith, k .long, k .few))
 
-enum-known-v : tie.Need-enum-known-v
-enum-known-v c = search needs
-
-declined-requires-2 : tie.Need-declined-requires-2
-declined-requires-2 c κs = search needs
-
-returns-2 : tie.Need-returns-2
-returns-2 c =
-    let k = c .before .before .before .before .before .before in
-    let s = k .before .before .before .before .before .before in
-    let a = s .args in
-    let t = c .before .before .before .before .before .take-all in
-    let d = c .before .before .v .given .0 .0 in
-    stays Sound (a .b) (postsOn (a .b) (a .count) (now (a .body))) (d .number) (c .declined2 .result)
-    (post-declined (a .b) (a .count) (now (a .body)) (passes k) (d .number)
-    (was-declined (t .result .book) (takenTo (a .b) (postIn (now (a .body))) (a .count)) (t .result) d (t .ensures .0) (c .before .before .v .given .1)))
-    (c .declined2 .ensures)
-    (s .pre)
-
 enum-told-2 : tie.Need-enum-told-2
 enum-told-2 c = search needs
 
-add-c : tie.Need-add-c
-add-c c = search needs
+returns-2 : tie.Need-returns-2
+returns-2 c =
+    let k = c .before .before .before in
+    let s = k .before .before .before .before .before .before in
+    let a = s .args in
+    let t = c .before .before .take-run in
+    let d = c .enum-told2 .given .0 .0 in
+    let is = was-declined (a .b) (takenTo (a .b) (postIn (now (a .body))) (a .count)) (t .result) d (t .ensures .0) (c .enum-told2 .given .1) in
+    stays Sound (a .b) (postsOn (a .b) (a .count) (now (a .body))) (d .number) (t .result)
+    (post-declined (a .b) (a .count) (now (a .body)) (passes k) (d .number) is)
+    (t .ensures .0 ∙ ap (outcome (a .b)) is)
+    (s .pre)
+
+enum-told-3 : tie.Need-enum-told-3
+enum-told-3 c = search needs
+
+add-blocks : tie.Need-add-blocks
+add-blocks c = search needs
 
 returns-3 : tie.Need-returns-3
 returns-3 c =
     let k = c .before .before .before .before .before in
     let s = k .before .before .before .before .before .before in
     let a = s .args in
-    let t = c .before .before .before .before .take-all in
-    let e =
-    all-taken (a .b) (a .count) (now (a .body)) (passes k) (t .result .book)
-    (was-accepted (t .result .book) (takenTo (a .b) (postIn (now (a .body))) (a .count)) (t .result) (t .ensures .0) (c .before .enum-told2 .given .1)) in
-    (ap (outcome (a .b)) (sym e), posts-sound (a .b) _ (a .count) (now (a .body)) (s .pre) e)
+    let t = c .before .before .before .before .take-run in
+    block-taken (a .b) (a .count) (now (a .body)) (t .result) (s .pre) (passes k) (t .ensures .0) (c .before .before .enum-told3 .given .1)
 
 pub take-posts-spec : {M : Type 1} → statement M
 take-posts-spec =
@@ -91,10 +85,9 @@ take-posts-spec =
     declined-requires
     returns
     enum-told
-    take-all-requires
-    enum-known-v
-    declined-requires-2
-    returns-2
+    take-run-requires
     enum-told-2
-    add-c
+    returns-2
+    enum-told-3
+    add-blocks
     returns-3)
