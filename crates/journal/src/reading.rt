@@ -84,10 +84,10 @@ pub fn read_whole(journal: &[u8]) -> Reading
         let a = block::take_block(b, &journal[at..end]);
         let v = a.verdict;
         b = a.book;
-        if let Verdict::Declined(d) = v {
+        if let Verdict::Declined(first) = v {
             return Reading {
                 book: b,
-                stopped: Stopped::By(d),
+                stopped: Stopped::By(first),
             };
         }
         at = end;
