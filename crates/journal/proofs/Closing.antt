@@ -3,12 +3,11 @@ use mathlib.Core.Path.{_≡_, refl, ap, _∙_}
 use mathlib.Core.Bool.{Bool, true, false, cond}
 use mathlib.Core.List.{List}
 use Prim.Native.Nat.{ℕ, zero, suc, _+_, _-_, _*_, _≤_, _<_}
-use native.Mathlib.Decide.{ℕ-discrete, decLt}
+use native.Mathlib.Decide.{ℕ-discrete}
 use native.Mathlib.Omega.{arith}
 use borrow.Author.Tests.{eq-eqb, ne-eqb}
 use lib.Dec.{eqb}
-use lib.ListN.{length, getD, set, length-set}
-use lib.Seq.{getD-set-same, getD-set-other}
+use lib.ListN.{length, getD}
 use Rattle.book.specs.Ledger.{held, water, gas, at, cell, moved, noRates, closesTo, settled}
 use Rattle.book.specs.Posting.{closedBook}
 use Rattle.book.specs.Report.{ratesOf}
@@ -16,6 +15,7 @@ use Rattle.book.specs.Site.{Sound}
 use Rattle.book.specs.declared.site.Book.{Book}
 use Rattle.book.specs.declared.site.Rates.{Rates}
 use Rattle.book.proofs.ledger.Laws.{closes-below, length-settled}
+use Rattle.journal.proofs.Moved.{moved-other, moved-from, moved-into}
 
 -- ---- one pair closed
 
@@ -28,53 +28,22 @@ closes-above r = go (eqb (r .side) 2)
     go true = omega arith
     go false = omega arith
 
--- the pair is told by the place
-same-pair : (x y k j : ℕ) → k < 64 → j < 64 → at x k ≡ at y j → k ≡ j
-same-pair x y k j hk hj e = go (decLt x y) (decLt y x)
-  where
-    go : Dec (x < y) → Dec (y < x) → k ≡ j
-    go (yes p) q = omega arith
-    go (no p) (yes q) = omega arith
-    go (no p) (no q) = omega arith
-
 module _ (m : List ℕ) (to k : ℕ) (hk : k < 64) (some : 1 ≤ to) (few : to < 9) (long : length m ≡ 576) where
   -- another pair stands
   moved-elsewhere : (account j : ℕ) → j < 64 → (j ≡ k → ⊥) → getD (moved m (at held k) (at to k) (getD m (at held k) 0)) (at account j) 0 ≡ getD m (at account j) 0
-  moved-elsewhere account j hj ne =
-      let n = getD m (at held k) 0 in
-      let less = set m (at held k) (n - n) in
-      getD-set-other less (at to k) (at account j) (getD less (at to k) 0 + n) 0 (λ e. ne (same-pair account to j k hj hk e))
-      ∙ getD-set-other m (at held k) (at account j) (n - n) 0 (λ e. ne (same-pair account held j k hj hk e))
+  moved-elsewhere account j hj ne = moved-other m (at held k) (at to k) (getD m (at held k) 0) (at account j) (λ e. ne (omega arith)) (λ e. ne (omega arith))
 
   -- the holding is emptied
   moved-held : getD (moved m (at held k) (at to k) (getD m (at held k) 0)) (at held k) 0 ≡ 0
-  moved-held =
-      let n = getD m (at held k) 0 in
-      let less = set m (at held k) (n - n) in
-      omega (
-        arith,
-        getD-set-other less (at to k) (at held k) (getD less (at to k) 0 + n) 0 (λ e. omega arith),
-        getD-set-same m (at held k) (n - n) 0 (omega arith),
-      )
+  moved-held = omega (arith, moved-from m (at held k) (at to k) (getD m (at held k) 0) (λ e. omega arith) (omega arith))
 
   -- the account that it goes to grows by it
   moved-grown : getD (moved m (at held k) (at to k) (getD m (at held k) 0)) (at to k) 0 ≡ getD m (at to k) 0 + getD m (at held k) 0
-  moved-grown =
-      let n = getD m (at held k) 0 in
-      let less = set m (at held k) (n - n) in
-      omega (
-        arith,
-        getD-set-same less (at to k) (getD less (at to k) 0 + n) 0 (omega (arith, length-set m (at held k) (n - n))),
-        getD-set-other m (at held k) (at to k) (n - n) 0 (λ e. omega arith),
-      )
+  moved-grown = moved-into m (at held k) (at to k) (getD m (at held k) 0) (λ e. omega arith) (omega arith)
 
   -- and any other account stands
   moved-beside : (account : ℕ) → 1 ≤ account → (account ≡ to → ⊥) → getD (moved m (at held k) (at to k) (getD m (at held k) 0)) (at account k) 0 ≡ getD m (at account k) 0
-  moved-beside account ha ne =
-      let n = getD m (at held k) 0 in
-      let less = set m (at held k) (n - n) in
-      getD-set-other less (at to k) (at account k) (getD less (at to k) 0 + n) 0 (λ e. ne (omega arith))
-      ∙ getD-set-other m (at held k) (at account k) (n - n) 0 (λ e. omega arith)
+  moved-beside account ha ne = moved-other m (at held k) (at to k) (getD m (at held k) 0) (at account k) (λ e. omega arith) (λ e. ne (omega arith))
 
   -- the accounts but the holding, in one
   moved-at : (account : ℕ) → 1 ≤ account

@@ -1,5 +1,5 @@
 -- What a post before the close does to the sums of each stage and substance: a holding grows by what is issued and formed, and falls by what leaves it. Assumes nothing.
-use mathlib.Core.Path.{_≡_, refl, sym, ap, subst, _∙_}
+use mathlib.Core.Path.{_≡_, refl, sym, ap, subst}
 use mathlib.Core.Bool.{Bool, true, false, _&&_, cond}
 use mathlib.Core.List.{List}
 use Prim.Native.Nat.{ℕ, _+_, _-_, _≤_, _<_}
@@ -7,7 +7,7 @@ use borrow.Author.Tests.{eq-eqb, ne-eqb}
 use native.Mathlib.Decide.{ℕ-discrete, decLe}
 use native.Mathlib.Omega.{arith}
 use lib.Dec.{eqb}
-use lib.ListN.{length, set, length-set}
+use lib.ListN.{length, set}
 use lib.Seq.{getD-set-same, getD-set-other}
 use Rattle.book.specs.Each.{sumTo}
 use Rattle.book.specs.Ledger.{held, accountOf, cellOf, cell, moved, raised, brings}
@@ -21,6 +21,7 @@ use Rattle.book.proofs.Sums.{sum-point}
 use Rattle.book.proofs.ledger.Laws.{raised-at, own-place}
 use Rattle.book.proofs.posting.Laws.{applied-receipt, applied-issue, applied-forming, applied-transfer}
 use Rattle.journal.specs.Weighing.{issues, moves}
+use Rattle.journal.proofs.Moved.{moved-other, moved-from, moved-into}
 
 -- ---- what one post says
 
@@ -102,33 +103,21 @@ module _ (l : List ℕ) (y j t v : ℕ) (hj : j < 8) (ht : t < 8) where
 
 module _ (l : List ℕ) (account stage t n : ℕ) (hst : stage < 8) (ht : t < 8) where
   -- a cell that is neither the holding nor the account stands
-  moved-other : (x k s : ℕ) → k < 8 → s < 8 → (x ≡ held → k ≡ stage → s ≡ t → ⊥) → (x ≡ account → k ≡ stage → s ≡ t → ⊥)
+  stands : (x k s : ℕ) → k < 8 → s < 8 → (x ≡ held → k ≡ stage → s ≡ t → ⊥) → (x ≡ account → k ≡ stage → s ≡ t → ⊥)
       → cell (moved l (cellOf held stage t) (cellOf account stage t) n) x k s ≡ cell l x k s
-  moved-other x k s hk hs off away =
-      let less = set l (cellOf held stage t) (cell l held stage t - n) in
-      cell-other less account stage t (cell less account stage t + n) hst ht x k s hk hs away
-      ∙ cell-other l held stage t (cell l held stage t - n) hst ht x k s hk hs off
+  stands x k s hk hs off away =
+      moved-other l (cellOf held stage t) (cellOf account stage t) n (cellOf x k s)
+      (λ e. let w = same-place x k s held stage t hk hs hst ht e in off (w .0) (w .1 .0) (w .1 .1))
+      (λ e. let w = same-place x k s account stage t hk hs hst ht e in away (w .0) (w .1 .0) (w .1 .1))
 
   module _ (low : 1 ≤ account) (high : account ≤ 8) (long : length l ≡ 576) where
     -- the holding falls by what is moved
-    moved-held : n ≤ cell l held stage t → cell (moved l (cellOf held stage t) (cellOf account stage t) n) held stage t + n ≡ cell l held stage t
-    moved-held have =
-        let less = set l (cellOf held stage t) (cell l held stage t - n) in
-        omega (
-          arith,
-          cell-other less account stage t (cell less account stage t + n) hst ht held stage t hst ht (λ e f g. omega arith),
-          cell-same l held stage t (cell l held stage t - n) hst ht (omega arith) long,
-        )
+    falls : n ≤ cell l held stage t → cell (moved l (cellOf held stage t) (cellOf account stage t) n) held stage t + n ≡ cell l held stage t
+    falls have = omega (arith, moved-from l (cellOf held stage t) (cellOf account stage t) n (λ e. omega arith) (omega arith))
 
     -- and the account grows by it
-    moved-account : cell (moved l (cellOf held stage t) (cellOf account stage t) n) account stage t ≡ cell l account stage t + n
-    moved-account =
-        let less = set l (cellOf held stage t) (cell l held stage t - n) in
-        omega (
-          arith,
-          cell-same less account stage t (cell less account stage t + n) hst ht (omega arith) (length-set l (cellOf held stage t) (cell l held stage t - n) ∙ long),
-          cell-other l held stage t (cell l held stage t - n) hst ht account stage t hst ht (λ e f g. omega arith),
-        )
+    gains : cell (moved l (cellOf held stage t) (cellOf account stage t) n) account stage t ≡ cell l account stage t + n
+    gains = moved-into l (cellOf held stage t) (cellOf account stage t) n (λ e. omega arith) (omega arith)
 
 -- ---- an issue
 
@@ -209,12 +198,12 @@ module _ (l : List ℕ) (p : Post) (long : length l ≡ 576) (hst : p .stage < 8
           by-pair (λ x y. cell (movedSums l p n) held x y + moves numbers (p .kind) x y p ≡ cell l held x y) (p .stage) (p .substance) k s
           (omega (
             arith,
-            moved-held l (accountOf (p .kind)) (p .stage) (p .substance) n hst ht (omega arith) (omega arith) long have,
+            falls l (accountOf (p .kind)) (p .stage) (p .substance) n hst ht (omega arith) (omega arith) long have,
             moves-here numbers (p .kind) (p .stage) (p .substance) p refl refl refl,
           ))
           (λ d. omega (
             arith,
-            moved-other l (accountOf (p .kind)) (p .stage) (p .substance) n hst ht held k s hk hs
+            stands l (accountOf (p .kind)) (p .stage) (p .substance) n hst ht held k s hk hs
                 (λ e f g. d (sym f) (sym g)) (λ e f g. d (sym f) (sym g)),
             moves-other numbers (p .kind) k s p d,
           ))
@@ -231,19 +220,19 @@ module _ (l : List ℕ) (p : Post) (long : length l ≡ 576) (hst : p .stage < 8
                 arith,
                 ap (λ (x : ℕ). cell (movedSums l p n) x (p .stage) (p .substance)) own,
                 ap (λ (x : ℕ). cell l x (p .stage) (p .substance)) own,
-                moved-account l (accountOf (p .kind)) (p .stage) (p .substance) n hst ht (omega arith) (omega arith) long,
+                gains l (accountOf (p .kind)) (p .stage) (p .substance) n hst ht (omega arith) (omega arith) long,
                 moves-here numbers (5 + i) (p .stage) (p .substance) p e refl refl,
               ))
               (λ d. omega (
                 arith,
-                moved-other l (accountOf (p .kind)) (p .stage) (p .substance) n hst ht (1 + i) k s hk hs
+                stands l (accountOf (p .kind)) (p .stage) (p .substance) n hst ht (1 + i) k s hk hs
                     (λ e f g. d (sym f) (sym g)) (λ e f g. d (sym f) (sym g)),
                 moves-other numbers (5 + i) k s p d,
               ))
           go (no d) =
               omega (
                 arith,
-                moved-other l (accountOf (p .kind)) (p .stage) (p .substance) n hst ht (1 + i) k s hk hs
+                stands l (accountOf (p .kind)) (p .stage) (p .substance) n hst ht (1 + i) k s hk hs
                     (λ e f g. omega arith) (λ e f g. d (omega arith)),
                 none-moved numbers (5 + i) k s p d,
               )

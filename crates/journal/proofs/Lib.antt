@@ -1,5 +1,6 @@
 pub mod Demand
 pub mod Setting
+pub mod Moved
 pub mod Flows
 pub mod Closing
 pub mod Posted

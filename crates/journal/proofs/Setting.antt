@@ -3,7 +3,7 @@ use mathlib.Core.Path.{_≡_, refl, sym, ap, subst, _∙_}
 use mathlib.Core.Bool.{cond}
 use mathlib.Core.List.{List, [], _∷_, _++_}
 use Prim.Native.Nat.{ℕ, _+_, _*_, _≤_, _<_}
-use native.Mathlib.Decide.{ℕ-discrete, decLt}
+use native.Mathlib.Decide.{ℕ-discrete}
 use native.Mathlib.Omega.{arith}
 use borrow.Author.Tests.{eq-eqb, ne-eqb}
 use lib.Dec.{eqb}
@@ -56,15 +56,6 @@ stage-none n = refl
 no-row : (s : ℕ) → rateRow (drop 2 []) s ≡ noRates
 unfolding ratesAt le
 no-row s = rw (drop-nil {A = ℕ} (s * 17))
-
--- the first digit in base eight is told by the number
-same-stage : (x y k j : ℕ) → k < 8 → j < 8 → x * 8 + k ≡ y * 8 + j → x ≡ y
-same-stage x y k j hk hj e = go (decLt x y) (decLt y x)
-  where
-    go : Dec (x < y) → Dec (y < x) → x ≡ y
-    go (yes p) q = absurd (omega arith)
-    go (no p) (yes q) = absurd (omega arith)
-    go (no p) (no q) = omega arith
 
 -- ---- a set-up by the bytes of its blocks
 
@@ -127,7 +118,7 @@ module _ (t x : List ℕ) (stages : List (List ℕ)) (u : Setup) (h : SetBy t st
           ∙ ap (λ (y : List ℕ). rateRow (drop 2 y) s) (sym (stage-new (countOf x) stages x refl (subst (λ (n : ℕ). Below n stages) (sym (a .next)) (h .below)))))
       go (no d) =
           put-other place (rateRow (drop 2 (bodyOf x))) (u .rates) (u .outline .substances) (k * 8 + s) noRates
-          (λ i hi q. d (sym (same-stage k (countOf x) s i (omega (arith, w .substances-few)) (omega (arith, w .substances-few)) q)))
+          (λ i hi q. d (omega (arith, w .substances-few)))
           ∙ h .rates k s hk hs
           ∙ ap (λ (y : List ℕ). rateRow (drop 2 y) s) (sym (stage-old k stages x d))
 

@@ -203,7 +203,7 @@ told calls s =
 abbrev pub answerOf : List Call → ℕ → Answer Report
 answerOf calls s = checked (check (ltb s (substancesOf calls)) unknown ∷ []) (told calls s)
 
--- what is true of the accepted calls of a list: each "less" is the difference of two sums of which the first is the larger
+-- what is true of the accepted calls of a list: each "less" is the difference of two sums of which the first is never the smaller
 pub record Weighed (calls : List Call) (s : ℕ) : Type 0 where
   pub in-store : issued calls s ≤ opening calls s + bought calls s
   pub in-holding : (stage : ℕ) → stage < 8 → left calls s stage ≤ came calls s stage
