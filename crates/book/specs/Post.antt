@@ -54,8 +54,8 @@ unused = 0 upTo 1
 abbrev pub below : ℕ → Span
 below count = 0 upTo count
 
-abbrev pub forms : Span
-forms = 1 upTo 4
+abbrev pub formNumbers : Span
+formNumbers = 1 upTo 4
 
 -- "Content used is 1 to 1,000,000; quantity in g 1 to 2,000,000,000; in micrograms 1 to 2×10^15"
 abbrev pub contents : Span
@@ -81,7 +81,7 @@ limitsOf o kind =
     (cond (eqb kind 3) (fields material stage unused unused grams)
     (cond (eqb kind 4) (fields unused stage substance unused micrograms)
     (cond (leb kind 11) (fields unused stage substance contents grams)
-    (cond (eqb kind 12) (fields forms stage substance unused unused)
+    (cond (eqb kind 12) (fields formNumbers stage substance unused unused)
     (fields unused unused unused unused unused)))))
 
 abbrev pub fieldsFit : Limits → Post → Bool

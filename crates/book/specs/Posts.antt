@@ -19,7 +19,7 @@ partOf size s i = take size (drop (i * size) s)
 
 -- the post at a place of the body, from 0
 abbrev pub postIn : List ℕ → ℕ → List ℕ
-postIn body i = take 48 (drop (i * 48) body)
+postIn body = partOf 48 body
 
 -- "its posts are tried in turn, each from 5 on the book the earlier ones left": the first n of them, and the first decline is theirs. 4 holds of each, since posts leave the set-up as it is.
 unfoldable pub takenTo : Book → (ℕ → List ℕ) → ℕ → Answer Book

@@ -5,11 +5,8 @@ ghost use lib.ListN.{length, getD};
 ghost use Rattle.book.specs.Answer.{outcome};
 ghost use Rattle.book.specs.Ledger.{held, cell, total};
 ghost use Rattle.book.specs.Posting.{storeAfter, sumsAfter, handledAfter, hasRoom, isThere, postOn, readOf, readAnswer, admitted, Entry};
-ghost use Rattle.book.specs.Posts.{partOf, takenTo};
 ghost use Rattle.book.specs.Site.{Sound};
-use crate::answer;
 use crate::answer::Answered;
-use crate::answer::Verdict;
 use crate::ledger;
 use crate::ledger::HELD;
 use crate::outline;
@@ -17,6 +14,7 @@ use crate::outline::Outline;
 use crate::post;
 use crate::post::Post;
 use crate::post::PostRead;
+use crate::posts;
 use crate::site::Book;
 use amounts::decline;
 use amounts::decline::Decline;
@@ -86,7 +84,7 @@ fn is_there<'a>(store: &'a [u64; 12], sums: &'a [u64; 576], p: Post, amount: u64
 }
 
 // A post of any bytes that passes 4 to 11, by what a book holds.
-fn admit<'a>(
+pub(crate) fn admit<'a>(
     o: Outline,
     numbers: &[u16; 8],
     closed: bool,
@@ -114,7 +112,7 @@ fn admit<'a>(
 }
 
 // What a post before the close does to the store.
-fn into_store(store: &mut [u64; 12], p: Post)
+pub(crate) fn into_store(store: &mut [u64; 12], p: Post)
     requires { ⌜ (p .kind ≤ 3 → (p .material < 12) × (p .quantity ≤ 2000000000)) ⌝ }
     requires { ⌜ ((m : ℕ) → m < 12 → getD (now store) m 0 ≤ 2 * 10 ^ 9 * 4000) ⌝ }
     requires { ⌜ (p .kind ≡ 3 → p .quantity ≤ getD (now store) (p .material) 0) ⌝ }
@@ -131,7 +129,7 @@ fn into_store(store: &mut [u64; 12], p: Post)
 }
 
 // To the ledger's sums: what is issued or formed comes to a holding, and what leaves one goes to its account.
-fn into_sums(sums: &mut [u64; 576], counted: &[u32; 96], p: Post, amount: u64)
+pub(crate) fn into_sums(sums: &mut [u64; 576], counted: &[u32; 96], p: Post, amount: u64)
     requires { ⌜ Entry (now counted) p amount ⌝ }
     requires { ⌜ length (now sums) ≡ 576 ⌝ }
     requires { ⌜ ((s : ℕ) → s < 8 → total (now sums) s ≤ 2 * 10 ^ 15 * 4000) ⌝ }
@@ -156,7 +154,7 @@ fn into_sums(sums: &mut [u64; 576], counted: &[u32; 96], p: Post, amount: u64)
 }
 
 // And to what was handled.
-fn into_handled(handled: &mut [u64; 8], counted: &[u32; 96], p: Post, amount: u64)
+pub(crate) fn into_handled(handled: &mut [u64; 8], counted: &[u32; 96], p: Post, amount: u64)
     requires { ⌜ Entry (now counted) p amount ⌝ }
     requires { ⌜ ((s : ℕ) → s < 8 → getD (now handled) s 0 ≤ 2 * 10 ^ 15 * 4000) ⌝ }
     ensures { λ r. ⌜ now (handled .exit) ≡ handledAfter (now (handled .entry)) (now (counted .entry)) p amount ⌝ }
@@ -171,51 +169,11 @@ fn into_handled(handled: &mut [u64; 8], counted: &[u32; 96], p: Post, amount: u6
     }
 }
 
-// The first n posts of the bytes, each of the given size and tried on the book that the earlier ones left. A decline has the book given in.
-pub(crate) fn take_run(b: Book, s: &[u8], size: usize, n: usize) -> Answered
-    requires { ⌜ Sound b ⌝ }
-    requires { ⌜ n * size ≤ length (now s) ⌝ }
-    ensures { λ r. ⌜ r ≡ outcome b (takenTo b (partOf size (now (s .entry))) n) ⌝ }
-    ensures { λ r. ⌜ Sound (r .book) ⌝ }
-{
-    let setup = b.setup;
-    let o = setup.outline;
-    let numbers = setup.numbers;
-    let counted = setup.counted;
-    let mut c = b;
-    let mut i: usize = 0;
-    while i < n {
-        let at = i * size;
-        let part = &s[at..at + size];
-        match admit(o, &numbers, c.closed, c.posts, &c.store, &c.sums, part) {
-            ReadingAnswer::Declined(d) => return answer::declined(b, d),
-            ReadingAnswer::Read(r) => {
-                let p = r.post;
-                c.posts = c.posts + 1;
-                i += 1;
-                if p.kind == 13 {
-                    let rates = setup.rates;
-                    ledger::settle(&mut c.sums, rates);
-                    c.closed = true;
-                } else {
-                    into_store(&mut c.store, p);
-                    into_sums(&mut c.sums, &counted, p, r.amount);
-                    into_handled(&mut c.handled, &counted, p, r.amount);
-                }
-            }
-        }
-    }
-    Answered {
-        verdict: Verdict::Accepted,
-        book: c,
-    }
-}
-
 // One post of any bytes.
 pub fn take_post(b: Book, s: &[u8]) -> Answered
     requires { ⌜ Sound b ⌝ }
     ensures { λ r. ⌜ r ≡ outcome b (postOn b (now (s .entry))) ⌝ }
     ensures { λ r. ⌜ Sound (r .book) ⌝ }
 {
-    take_run(b, s, s.len(), 1)
+    posts::take_run(b, s, s.len(), 1)
 }

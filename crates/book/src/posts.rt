@@ -1,19 +1,63 @@
-// Kind 3: the posts of a block, taken whole or not at all.
+// Posts in a run, and kind 3: the posts of a block, taken whole or not at all.
 ghost use mathlib.Core.Path.{_≡_};
+ghost use Prim.Native.Nat.{_*_, _≤_};
+ghost use lib.ListN.{length};
 ghost use Rattle.amounts.specs.Decline.{checked};
 ghost use Rattle.book.specs.Answer.{verdictOf, outcome};
-ghost use Rattle.book.specs.Posts.{ownChecks, postsOn};
+ghost use Rattle.book.specs.Posts.{partOf, takenTo, ownChecks, postsOn};
 ghost use Rattle.book.specs.Site.{Sound};
 use crate::answer;
 use crate::answer::Answered;
 use crate::answer::Verdict;
 use crate::bytes;
+use crate::ledger;
 use crate::outline;
 use crate::outline::Outline;
 use crate::posting;
+use crate::posting::ReadingAnswer;
 use crate::setup;
 use crate::site::Book;
 use amounts::decline;
+
+// The first n posts of the bytes, each of the given size and tried on the book that the earlier ones left. A decline has the book given in.
+pub(crate) fn take_run(b: Book, s: &[u8], size: usize, n: usize) -> Answered
+    requires { ⌜ Sound b ⌝ }
+    requires { ⌜ n * size ≤ length (now s) ⌝ }
+    ensures { λ r. ⌜ r ≡ outcome b (takenTo b (partOf size (now (s .entry))) n) ⌝ }
+    ensures { λ r. ⌜ Sound (r .book) ⌝ }
+{
+    let setup = b.setup;
+    let o = setup.outline;
+    let numbers = setup.numbers;
+    let counted = setup.counted;
+    let mut c = b;
+    let mut i: usize = 0;
+    while i < n {
+        let at = i * size;
+        let part = &s[at..at + size];
+        match posting::admit(o, &numbers, c.closed, c.posts, &c.store, &c.sums, part) {
+            ReadingAnswer::Declined(d) => return answer::declined(b, d),
+            ReadingAnswer::Read(r) => {
+                let p = r.post;
+                c.posts = c.posts + 1;
+                i += 1;
+                if p.kind == 13 {
+                    let rates = setup.rates;
+                    ledger::settle(&mut c.sums, rates);
+                    c.closed = true;
+                } else {
+                    posting::into_store(&mut c.store, p);
+                    posting::into_sums(&mut c.sums, &counted, p, r.amount);
+                    posting::into_handled(&mut c.handled, &counted, p, r.amount);
+                }
+            }
+        }
+    }
+    Answered {
+        verdict: Verdict::Accepted,
+        book: c,
+    }
+}
 
 fn check_posts(o: Outline, closed: bool, count: u8, body: &[u8]) -> Verdict
     ensures { λ r. ⌜ r ≡ verdictOf (checked (ownChecks o closed count (now (body .entry))) (tt {0})) ⌝ }
@@ -48,7 +92,7 @@ pub fn take_posts(b: Book, count: u8, body: &[u8]) -> Answered
     if let Verdict::Declined(d) = check_posts(o, b.closed, count, body) {
         return answer::declined(b, d);
     }
-    let mut a = posting::take_run(b, body, 48, count as usize);
+    let mut a = take_run(b, body, 48, count as usize);
     let v = a.verdict;
     if let Verdict::Declined(_) = v {
         return a;

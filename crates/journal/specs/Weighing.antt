@@ -182,8 +182,8 @@ lineOf calls s =
           };
     }
 
-abbrev pub isDue : List Call → ℕ → Bool
-isDue calls s = valueOr false (dueOf (classOf calls s) (handled calls s))
+abbrev pub dueOn : List Call → ℕ → Bool
+dueOn calls s = valueOr false (dueOf (classOf calls s) (handled calls s))
 
 -- due and the filed figures follow from the exact amounts
 abbrev pub told : List Call → ℕ → Report
@@ -193,10 +193,10 @@ told calls s =
       posts = length (postsOf calls);
       number = getD (numbersOf calls) s 0;
       handled = handled calls s;
-      due = isDue calls s;
+      due = dueOn calls s;
       store = store calls s;
       line = line;
-      filed = filingOf (isDue calls s) (line .headings);
+      filed = filingOf (dueOn calls s) (line .headings);
     }
 
 -- "declined by 12 alone, never for a substance that the book has"

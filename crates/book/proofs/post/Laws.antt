@@ -21,7 +21,7 @@ use Rattle.amounts.specs.declared.form.LossForm.{LossForm}
 use Rattle.amounts.specs.declared.form.LossForm.the-variants.{FloatingRoof, FixedRoof, Station}
 use Rattle.amounts.proofs.decline.Laws.{one-taken, one-declined, was-taken}
 use Rattle.amounts.proofs.loss.Laws.{loss-bounded}
-use Rattle.book.specs.Post.{postAt, inSpan, fields, below, unused, forms, contents, grams, micrograms, limitsOf, fieldsFit, layoutFits, layoutChecks, isVapour, kgOver, lossOver, amountOf, answer}
+use Rattle.book.specs.Post.{postAt, inSpan, fields, below, unused, formNumbers, contents, grams, micrograms, limitsOf, fieldsFit, layoutFits, layoutChecks, isVapour, kgOver, lossOver, amountOf, answer}
 use Rattle.book.specs.Setup.{within}
 use Rattle.book.specs.declared.outline.Outline.{Outline}
 use Rattle.book.specs.declared.post.Limits.{Limits}
@@ -131,7 +131,7 @@ bounds o p fit = go (leb k 2) (eqb k 3) (eqb k 4) (leb k 11) (eqb k 12) refl ref
         → eqb k 4 ≡ c
         → leb k 11 ≡ d
         → eqb k 12 ≡ e
-        → Under (cond a (fields ms unused unused unused grams) (cond b (fields ms ts unused unused grams) (cond c (fields unused ts ss unused micrograms) (cond d (fields unused ts ss contents grams) (cond e (fields forms ts ss unused unused) (fields unused unused unused unused unused)))))) p
+        → Under (cond a (fields ms unused unused unused grams) (cond b (fields ms ts unused unused grams) (cond c (fields unused ts ss unused micrograms) (cond d (fields unused ts ss contents grams) (cond e (fields formNumbers ts ss unused unused) (fields unused unused unused unused unused)))))) p
         → Bounds o p
     go true b c d e h₁ h₂ h₃ h₄ h₅ u =
         let l : k ≤ 2 = leb-true k 2 h₁ in

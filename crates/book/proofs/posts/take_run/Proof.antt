@@ -14,8 +14,8 @@ use Rattle.book.specs.declared.posting.Reading.{Reading}
 use Rattle.book.proofs.answer.Laws.{stays}
 use Rattle.book.proofs.posts.Laws.{none-yet, stays-declined}
 use Rattle.book.proofs.posts.Turn.{part-at, part-fits, tried, still-sound, turn-declined, few-posts, may-settle, turn-closed, may-store, may-sum, may-handle, turn-entered}
-use Rattle.book.proofs.posting.take_run.Statement.{statement}
-use Rattle.book.proofs.posting.take_run.Tie as tie
+use Rattle.book.proofs.posts.take_run.Statement.{statement}
+use Rattle.book.proofs.posts.take_run.Tie as tie
 
 abbrev Inv-loop : tie.InvT-loop
 Inv-loop b s size n setup o numbers counted c₀ i₀ c i = (i ≤ n) × (takenTo b (partOf size s) i ≡ taken c)
