@@ -60,14 +60,19 @@ const ROWS: [Entry; 5] = [
 pub fn row_of(number: u16) -> Found
     ensures { λ r. ⌜ answer r ≡ rowOf number ⌝ }
 {
-    let mut i = 0usize;
-    while i < 5 {
+    let mut at = 5usize;
+    let mut i = 5usize;
+    while i > 0 {
+        i -= 1;
         let e = ROWS[i];
         if e.number == number {
-            let row = e.row;
-            return Found::Row(row);
+            at = i;
         }
-        i += 1;
     }
-    Found::NoRow
+    if at == 5 {
+        return Found::NoRow;
+    }
+    let e = ROWS[at];
+    let row = e.row;
+    Found::Row(row)
 }

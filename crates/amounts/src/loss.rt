@@ -96,6 +96,16 @@ pub fn loss_of(form: LossForm, found: Found) -> Loss
     }
 }
 
+// A row over which a form's loss is that of the number: a station needs none, so that none is looked for.
+fn row_for(form: LossForm, number: u16) -> Found
+    ensures { λ r. ⌜ lossOf form (coefficients.answer r) ≡ lossOf form (coefficients.rowOf number) ⌝ }
+{
+    if let LossForm::Station { .. } = form {
+        return Found::NoRow;
+    }
+    coefficient::row_of(number)
+}
+
 // The loss called alone: a form's number, a management number and four bit patterns.
 pub fn vapour_loss(form: u8, number: u16, w: u64, u: u64, p: u64, q: u64) -> Loss
     ensures { λ r. ⌜ answer r ≡ vapourOf form number (valueOf w) (valueOf u) (valueOf p) (valueOf q) ⌝ }
@@ -104,7 +114,7 @@ pub fn vapour_loss(form: u8, number: u16, w: u64, u: u64, p: u64, q: u64) -> Los
         return Loss::Declined(decline::LAYOUT);
     }
     match form::read_form(form, w, u, p, q) {
-        FormRead::Form(f) => loss_of(f, coefficient::row_of(number)),
+        FormRead::Form(f) => loss_of(f, row_for(f, number)),
         FormRead::Declined(d) => Loss::Declined(d),
     }
 }

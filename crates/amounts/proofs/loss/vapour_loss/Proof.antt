@@ -17,8 +17,8 @@ read-form-requires c κs = search needs
 enum-known-f : tie.Need-enum-known-f
 enum-known-f c = search needs
 
-row-of-requires : tie.Need-row-of-requires
-row-of-requires c κs = search needs
+row-for-requires : tie.Need-row-for-requires
+row-for-requires c κs = search needs
 
 loss-of-requires : tie.Need-loss-of-requires
 loss-of-requires c κs = search needs
@@ -28,7 +28,7 @@ enum-known-d c = search needs
 
 returns-2 : tie.Need-returns-2
 unfolding vapourOf formOf
-returns-2 c = let k = c .before .before .before .before .before in rw (le-leb 1 (k .before .before .args .number) (k .before .if1 .left), ← k .read-form .ensures, c .before .before .before .f .given .1, ← c .before .row-of .ensures) (c .loss-of .ensures)
+returns-2 c = let k = c .before .before .before .before .before in rw (le-leb 1 (k .before .before .args .number) (k .before .if1 .left), ← k .read-form .ensures, c .before .before .before .f .given .1, ← c .before .row-for .ensures) (c .loss-of .ensures)
 
 returns-3 : tie.Need-returns-3
 unfolding vapourOf formOf
@@ -41,7 +41,7 @@ vapour-loss-spec =
     returns
     read-form-requires
     enum-known-f
-    row-of-requires
+    row-for-requires
     loss-of-requires
     enum-known-d
     returns-2
