@@ -3,9 +3,9 @@ ghost use mathlib.Core.Path.{_≡_};
 ghost use Rattle.book.specs.Site.{freshSetup, freshBook, Sound};
 use crate::outline::Outline;
 
-// A pair's side and rates in ppm, of a stage and a substance.
+// A pair's side and rates in ppm, of a stage and a substance. The side is as wide as the rates, so that a row has no unused bytes and is copied as one.
 pub struct Rates {
-    pub side: u8,
+    pub side: u32,
     pub gas_removal: u32,
     pub gas_destruction: u32,
     pub water_removal: u32,

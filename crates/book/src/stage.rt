@@ -23,7 +23,7 @@ fn rates_at(s: &[u8], at: usize) -> Rates
     ensures { λ r. ⌜ r ≡ ratesAt (drop at (now (s .entry))) ⌝ }
 {
     Rates {
-        side: bytes::byte_at(s, at),
+        side: bytes::byte_at(s, at) as u32,
         gas_removal: bytes::le32(s, at + 1),
         gas_destruction: bytes::le32(s, at + 5),
         water_removal: bytes::le32(s, at + 9),
@@ -34,7 +34,10 @@ fn rates_at(s: &[u8], at: usize) -> Rates
 fn rates_fit(r: Rates) -> bool
     ensures { λ x. ⌜ x ≡ ratesFit r ⌝ }
 {
-    if !setup::is_within(1, 2, r.side) {
+    if r.side < 1 {
+        return false;
+    }
+    if r.side > 2 {
         return false;
     }
     if r.gas_removal > 1_000_000 {

@@ -7,6 +7,9 @@ use Rattle.book.proofs.stage.rates_at.Tie as tie
 byte-at-requires : tie.Need-byte-at-requires
 byte-at-requires c κs = search needs
 
+cast-t4 : tie.Need-cast-t4
+cast-t4 c = search needs
+
 add-le32 : tie.Need-add-le32
 add-le32 c = search needs
 
@@ -41,6 +44,7 @@ rates-at-spec =
     tie.close
     (tie.spec
     byte-at-requires
+    cast-t4
     add-le32
     le32-requires
     add-le32-2
