@@ -42,8 +42,9 @@ fn check_sums(s: &[u8]) -> CheckSums
     let mut i: usize = 0;
     while i < s.len() {
         let x = wide(s[i]);
+        let place = i as u16 + 1;
         plain += x;
-        weighted += x * (i as u32 + 1);
+        weighted += x * (place as u32);
         i += 1;
     }
     CheckSums {

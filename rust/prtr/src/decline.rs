@@ -64,10 +64,10 @@ impl Decline {
     }
 
     /// The decline with this number, or `None` where document 01 has none.
+    #[inline]
     pub fn from_number(number: u8) -> Option<Decline> {
-        Decline::ALL
-            .into_iter()
-            .find(|decline| decline.number() == number)
+        let place = number.checked_sub(1)?;
+        Decline::ALL.get(usize::from(place)).copied()
     }
 
     /// Document 01's words, cut short.

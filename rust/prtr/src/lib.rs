@@ -72,13 +72,20 @@ pub struct Parts {
 }
 
 /// The answer where the library's status is 0, and else the decline with that number.
+#[inline]
 fn answer<A>(status: u8, value: A) -> Result<A, Decline> {
     if status == 0 {
         return Ok(value);
     }
-    match Decline::from_number(status) {
-        Some(decline) => Err(decline),
-        None => panic!("libprtr.a answered {status}, which is no decline of document 01"),
+    Err(declined(status))
+}
+
+/// The decline with a number that the library gave.
+#[cold]
+fn declined(number: u8) -> Decline {
+    match Decline::from_number(number) {
+        Some(decline) => decline,
+        None => panic!("libprtr.a answered {number}, which is no decline of document 01"),
     }
 }
 
@@ -95,6 +102,7 @@ fn answer<A>(status: u8, value: A) -> Result<A, Decline> {
 /// assert_eq!(counted(Class::One, 10_000), Ok(10_000));
 /// assert_eq!(counted(Class::Two, 1_000_001), Err(Decline::Layout));
 /// ```
+#[inline]
 pub fn counted(class: impl Into<u8>, ppm: u32) -> Result<u32, Decline> {
     let mut counted = 0;
     let status = raw::counted(class.into(), ppm, &mut counted);
@@ -113,14 +121,23 @@ pub fn counted(class: impl Into<u8>, ppm: u32) -> Result<u32, Decline> {
 /// assert_eq!(split(1, 999_999, 0), Ok(Parts { released: 1, destroyed: 0, residue: 0 }));
 /// assert_eq!(split(1, 1_000_001, 0), Err(Decline::Layout));
 /// ```
+#[inline]
 pub fn split(total: u64, removal: u32, destruction: u32) -> Result<Parts, Decline> {
-    let mut parts = Parts::default();
-    let Parts {
+    // A cell for each part, and not a struct's field: what is stored by parts is slow to load whole.
+    let (mut released, mut destroyed, mut residue) = (0, 0, 0);
+    let status = raw::split(
+        total,
+        removal,
+        destruction,
+        &mut released,
+        &mut destroyed,
+        &mut residue,
+    );
+    let parts = Parts {
         released,
         destroyed,
         residue,
-    } = &mut parts;
-    let status = raw::split(total, removal, destruction, released, destroyed, residue);
+    };
     answer(status, parts)
 }
 
@@ -131,6 +148,7 @@ pub fn split(total: u64, removal: u32, destruction: u32) -> Result<Parts, Declin
 /// assert_eq!(prtr::step(10_000_000_000), 1_000_000_000);
 /// assert_eq!(prtr::step(u64::MAX), 1_000_000_000_000_000_000);
 /// ```
+#[inline]
 pub fn step(amount: u64) -> u64 {
     raw::step(amount)
 }
@@ -154,6 +172,7 @@ pub fn step(amount: u64) -> u64 {
 /// assert_eq!(figure(225 * KG), 230 * KG);
 /// assert_eq!(figure(588 * KG), 590 * KG);
 /// ```
+#[inline]
 pub fn figure(amount: u64) -> u64 {
     raw::figure(amount)
 }
@@ -171,6 +190,7 @@ pub fn figure(amount: u64) -> u64 {
 /// assert_eq!(due(Class::Two, 500_000_000_000), Ok(true));
 /// assert_eq!(due(0u8, 0), Err(Decline::Layout));
 /// ```
+#[inline]
 pub fn due(class: impl Into<u8>, handled: u64) -> Result<bool, Decline> {
     let mut due = 0;
     let status = raw::due(class.into(), handled, &mut due);
@@ -199,6 +219,7 @@ pub fn due(class: impl Into<u8>, handled: u64) -> Result<bool, Decline> {
 /// let station = Form::Station { received: 1_500.0, filling: 0.0026885, dispensed: 1_420.0, fuelling: 0.0033856 };
 /// assert_eq!(loss(400, station), Ok(8_840_302_000));
 /// ```
+#[inline]
 pub fn loss(number: u16, form: Form) -> Result<u64, Decline> {
     let [w, u, p, q] = form.floats().map(f64::to_bits);
     loss_bits(form.number(), number, w, u, p, q)
@@ -214,6 +235,7 @@ pub fn loss(number: u16, form: Form) -> Result<u64, Decline> {
 /// assert_eq!(loss_bits(1, 400, tank, content, drawn, 1), Err(Decline::Float));
 /// assert_eq!(loss_bits(4, 400, tank, content, drawn, 0), Err(Decline::Layout));
 /// ```
+#[inline]
 pub fn loss_bits(form: u8, number: u16, w: u64, u: u64, p: u64, q: u64) -> Result<u64, Decline> {
     let mut micrograms = 0;
     let status = raw::loss(form, number, [w, u, p, q], &mut micrograms);
@@ -286,6 +308,7 @@ pub fn filing(journal: &[u8]) -> String {
 /// assert_eq!(&out[..16], b"refused 0 1\n....");
 /// assert_eq!(prtr::filing_into(b"no journal", &mut out[1..]), None);
 /// ```
+#[inline]
 pub fn filing_into(journal: &[u8], out: &mut [u8]) -> Option<usize> {
     match raw::filing(journal, out) {
         0 => None,

@@ -33,11 +33,13 @@ mod c {
 }
 
 /// 0 and the counted content, or a decline and the cell as before.
+#[inline]
 pub fn counted(class: u8, ppm: u32, counted: &mut u32) -> u8 {
     unsafe { c::prtr_counted(class, ppm, counted) }
 }
 
 /// 0 and the three parts, or a decline and the cells as before.
+#[inline]
 pub fn split(
     total: u64,
     removal: u32,
@@ -50,21 +52,25 @@ pub fn split(
 }
 
 /// The step of an amount.
+#[inline]
 pub fn step(amount: u64) -> u64 {
     unsafe { c::prtr_step(amount) }
 }
 
 /// The filed figure of an amount.
+#[inline]
 pub fn figure(amount: u64) -> u64 {
     unsafe { c::prtr_figure(amount) }
 }
 
 /// 0 and 1 or 0 in the cell, or a decline and the cell as before.
+#[inline]
 pub fn due(class: u8, handled: u64, due: &mut u8) -> u8 {
     unsafe { c::prtr_due(class, handled, due) }
 }
 
 /// 0 and the micrograms lost, or a decline and the cell as before; the floats w, u, p and q by their bits.
+#[inline]
 pub fn loss(form: u8, number: u16, floats: [u64; 4], micrograms: &mut u64) -> u8 {
     let [w, u, p, q] = floats;
     unsafe { c::prtr_loss(form, number, w, u, p, q, micrograms) }
@@ -72,6 +78,7 @@ pub fn loss(form: u8, number: u16, floats: [u64; 4], micrograms: &mut u64) -> u8
 
 /// How many bytes of text are now at the start of `out`, or 0 and `out` as before where it is
 /// shorter than [`ROOM`](crate::ROOM).
+#[inline]
 pub fn filing(journal: &[u8], out: &mut [u8]) -> usize {
     unsafe { c::prtr_filing(journal.as_ptr(), journal.len(), out.as_mut_ptr(), out.len()) }
 }

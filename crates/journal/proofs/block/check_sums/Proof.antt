@@ -42,20 +42,23 @@ shared-slice-read-wide c = omega arith
 wide-requires : tie.Need-wide-requires Inv-loop μ-loop
 wide-requires c κs = search needs
 
+cast-place : tie.Need-cast-place Inv-loop μ-loop
+cast-place c = omega arith
+
+add-place : tie.Need-add-place Inv-loop μ-loop
+add-place c = omega arith
+
 add-plain : tie.Need-add-plain Inv-loop μ-loop
 add-plain c = omega (arith, byte c)
 
 cast-weighted : tie.Need-cast-weighted Inv-loop μ-loop
 cast-weighted c = omega arith
 
-add-weighted : tie.Need-add-weighted Inv-loop μ-loop
-add-weighted c = omega arith
-
 mul-weighted : tie.Need-mul-weighted Inv-loop μ-loop
 mul-weighted c = omega (arith, weight c)
 
-add-weighted-2 : tie.Need-add-weighted-2 Inv-loop μ-loop
-add-weighted-2 c = omega (arith, weight c)
+add-weighted : tie.Need-add-weighted Inv-loop μ-loop
+add-weighted c = omega (arith, weight c)
 
 add-i : tie.Need-add-i Inv-loop μ-loop
 add-i c = omega arith
@@ -75,11 +78,11 @@ loop-again c =
       omega (arith, weight c),
     )
 
-cast-t14 : tie.Need-cast-t14 Inv-loop μ-loop
-cast-t14 c = omega arith
+cast-t15 : tie.Need-cast-t15 Inv-loop μ-loop
+cast-t15 c = omega arith
 
-cast-t16 : tie.Need-cast-t16 Inv-loop μ-loop
-cast-t16 c = omega arith
+cast-t17 : tie.Need-cast-t17 Inv-loop μ-loop
+cast-t17 c = omega arith
 
 returns : tie.Need-returns Inv-loop μ-loop
 unfolding plainSum weightedSum
@@ -100,14 +103,15 @@ check-sums-spec =
     loop-holds
     shared-slice-read-wide
     wide-requires
+    cast-place
+    add-place
     add-plain
     cast-weighted
-    add-weighted
     mul-weighted
-    add-weighted-2
+    add-weighted
     add-i
     loop-less
     loop-again
-    cast-t14
-    cast-t16
+    cast-t15
+    cast-t17
     returns)
