@@ -1,14 +1,8 @@
 -- "A decline returns its number and the book given in" (document 01, "Why a call is declined, in checking order").
 use Rattle.amounts.specs.Decline.{Answer, taken, declined}
 use Rattle.book.specs.declared.answer.Answered.{Answered}
-use Rattle.book.specs.declared.answer.Verdict.{Verdict}
-use Rattle.book.specs.declared.answer.Verdict.the-variants.{Accepted, Declined}
+use Rattle.layout.specs.declared.verdict.Verdict.the-variants.{Accepted, Declined}
 use Rattle.book.specs.declared.site.Book.{Book}
-
--- the code's verdict for an answer
-abbrev pub verdictOf : {A : Type 0} → Answer A → Verdict
-verdictOf (taken a) = Accepted
-verdictOf (declined n) = Declined (record { number = n })
 
 -- what the code returns for an answer to a call on a book
 abbrev pub outcome : Book → Answer Book → Answered

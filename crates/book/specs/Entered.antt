@@ -4,8 +4,8 @@ use mathlib.Core.Bool.{cond}
 use mathlib.Core.List.{List}
 use lib.Dec.{eqb}
 use Rattle.book.specs.Ledger.{brings}
-use Rattle.book.specs.Setup.{within}
-use Rattle.book.specs.declared.post.Post.{Post}
+use Rattle.layout.specs.Setup.{within}
+use Rattle.layout.specs.declared.post.Post.{Post}
 
 -- "the quantity of each formed post of the substance"
 abbrev pub forms : ℕ → Post → ℕ

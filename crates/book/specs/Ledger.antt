@@ -4,8 +4,9 @@ use mathlib.Core.Bool.{cond}
 use mathlib.Core.List.{List}
 use lib.Dec.{eqb}
 use lib.ListN.{getD, set}
-use Rattle.book.specs.Each.{sumTo, putTo}
-use Rattle.book.specs.declared.site.Rates.{Rates}
+use Rattle.layout.specs.Setup.{noRates}
+use Rattle.layout.specs.Each.{sumTo, putTo}
+use Rattle.layout.specs.declared.setup.Rates.{Rates}
 
 -- The accounts. Post kinds 5 to 12 move to the accounts 1 to 8, in the order of the kinds: "5 shipped, 6 waste off site, 7 landfill on site, 8 soil, 9 consumed, 10 to gas, 11 to waste water", "12 vapour".
 abbrev pub held : ℕ
@@ -66,9 +67,6 @@ raised place amount l n = putTo place (λ k. getD l (place k) 0 + amount k) l n
 -- "g times counted content", of the material m and the substance s
 abbrev pub brings : List ℕ → ℕ → ℕ → ℕ → ℕ
 brings counted m g s = g * getD counted (m * 8 + s) 0
-
-abbrev pub noRates : Rates
-noRates = record { side = 0; «gas_removal» = 0; «gas_destruction» = 0; «water_removal» = 0; «water_destruction» = 0 }
 
 -- "Each holding moves to gas or waste water, by that pair's side": 1 gas, 2 water
 unfoldable pub closesTo : Rates → ℕ

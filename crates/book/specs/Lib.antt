@@ -1,12 +1,8 @@
-pub mod Each
-pub mod Bytes
-pub mod Outline
 pub mod Ledger
 pub mod Site
 pub mod Answer
 pub mod Setup
 pub mod Stage
-pub mod Post
 pub mod Entered
 pub mod Posting
 pub mod Report

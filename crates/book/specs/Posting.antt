@@ -1,5 +1,5 @@
 -- A post on a book (document 01, "Posts" and "Why a call is declined, in checking order", 4 to 11).
-use Prim.Native.Nat.{ℕ, _+_, _-_, _*_, _≤_, _<_}
+use Prim.Native.Nat.{ℕ, _+_, _-_, _≤_, _<_}
 use mathlib.Core.Path.{_≡_}
 use mathlib.Core.Bool.{Bool, true, false, not, _||_, _&&_, cond}
 use mathlib.Core.List.{List, [], _∷_, _++_}
@@ -8,10 +8,10 @@ use lib.ListN.{getD, set}
 use Rattle.amounts.specs.Decline as number
 use Rattle.amounts.specs.Decline.{Answer, taken, declined, Check, check, checked, onTaken, isTaken}
 use Rattle.book.specs.Ledger.{held, accountOf, cellOf, cell, moved, raised, brings, settled}
-use Rattle.book.specs.Outline.{mayPost}
-use Rattle.book.specs.Post.{postAt, layoutFits, isVapour, isClose, floatsFit, kgFor, lossFor, amountOf}
-use Rattle.book.specs.declared.outline.Outline.{Outline}
-use Rattle.book.specs.declared.post.Post.{Post}
+use Rattle.layout.specs.Outline.{mayPost}
+use Rattle.layout.specs.Post.{postAt, layoutFits, isClose, floatsFit, kgFor, lossFor, amountOf}
+use Rattle.layout.specs.declared.outline.Outline.{Outline}
+use Rattle.layout.specs.declared.post.Post.{Post}
 use Rattle.book.specs.declared.posting.Reading.{Reading}
 use Rattle.book.specs.declared.posting.ReadingAnswer.{ReadingAnswer}
 use Rattle.book.specs.declared.posting.ReadingAnswer.the-variants as read

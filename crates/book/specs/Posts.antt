@@ -6,11 +6,11 @@ use lib.Dec.{eqb}
 use lib.ListN.{length, take, drop}
 use Rattle.amounts.specs.Decline as number
 use Rattle.amounts.specs.Decline.{Answer, taken, Check, check, checked, onTaken}
-use Rattle.book.specs.Bytes.{allZero}
-use Rattle.book.specs.Outline.{mayPost}
+use Rattle.layout.specs.Bytes.{allZero}
+use Rattle.layout.specs.Outline.{mayPost}
 use Rattle.book.specs.Posting.{postOn}
-use Rattle.book.specs.Setup.{within}
-use Rattle.book.specs.declared.outline.Outline.{Outline}
+use Rattle.layout.specs.Setup.{within}
+use Rattle.layout.specs.declared.outline.Outline.{Outline}
 use Rattle.book.specs.declared.site.Book.{Book}
 
 -- the ith of the parts of a size that bytes are made of, from 0

@@ -5,12 +5,13 @@ use mathlib.Core.List.{List, [], _∷_}
 use lib.Dec.{eqb, ltb}
 use lib.ListN.{getD}
 use Rattle.amounts.specs.Decline.{Answer, taken, declined, check, checked, valueOr, unknown}
-use Rattle.amounts.specs.Filed.{filedOf, stepOf}
+use Rattle.amounts.specs.Filed.{filedOf}
 use Rattle.amounts.specs.Threshold.{dueOf}
 use Rattle.amounts.specs.Treatment.{partsOf}
 use Rattle.amounts.specs.declared.treatment.Parts.{Parts}
-use Rattle.book.specs.Each.{sumTo}
-use Rattle.book.specs.Ledger.{held, shipped, offSite, landfill, soil, consumed, gas, water, vapour, cell, noRates}
+use Rattle.layout.specs.Each.{sumTo}
+use Rattle.book.specs.Ledger.{held, shipped, offSite, landfill, soil, consumed, gas, water, vapour, cell}
+use Rattle.layout.specs.Setup.{noRates}
 use Rattle.book.specs.Site.{stored}
 use Rattle.book.specs.declared.report.Filing.{Filing}
 use Rattle.book.specs.declared.report.Filing.the-variants.{Figures, NotDue}
@@ -20,8 +21,8 @@ use Rattle.book.specs.declared.report.Report.{Report}
 use Rattle.book.specs.declared.report.Reported as reported
 use Rattle.book.specs.declared.report.Reported.the-variants.{Known, Declined}
 use Rattle.book.specs.declared.site.Book.{Book}
-use Rattle.book.specs.declared.site.Rates.{Rates}
-use Rattle.book.specs.declared.site.Setup.{Setup}
+use Rattle.layout.specs.declared.setup.Rates.{Rates}
+use Rattle.layout.specs.declared.setup.Setup.{Setup}
 
 -- an amount where a destination is the one asked for
 abbrev pub atOne : ℕ → ℕ → ℕ

@@ -8,7 +8,7 @@ use Rattle.book.specs.Report.{atOne, atTwo}
 use Rattle.book.specs.declared.report.Cells.{Cells}
 use Rattle.book.specs.declared.report.Headings.{Headings}
 use Rattle.book.specs.declared.report.Line.{Line}
-use Rattle.book.specs.declared.site.Rates.{Rates}
+use Rattle.layout.specs.declared.setup.Rates.{Rates}
 
 abbrev pub cellsOf : List ℕ → ℕ → ℕ → Cells
 cellsOf sums stage s =

@@ -4,11 +4,7 @@ ghost use Rattle.book.specs.Answer.{outcome};
 ghost use Rattle.amounts.specs.Decline as answers;
 use crate::site::Book;
 use amounts::decline::Decline;
-
-pub enum Verdict {
-    Accepted,
-    Declined(Decline),
-}
+use layout::verdict::Verdict;
 
 pub struct Answered {
     pub verdict: Verdict,

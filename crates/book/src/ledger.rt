@@ -3,7 +3,7 @@ ghost use mathlib.Core.Path.{_≡_};
 ghost use Prim.Native.Nat.{ℕ, _^_, _+_, _-_, _*_, _≤_, _<_};
 ghost use lib.ListN.{length, getD, set};
 ghost use Rattle.book.specs.Ledger.{held, cellOf, total, moved, raised, brings, closesTo, settled};
-use crate::site::Rates;
+use layout::setup::Rates;
 
 pub(crate) const HELD: usize = 0;
 

@@ -1,9 +1,6 @@
 // The book of one site for one year: its set-up, its posts and its reports.
 pub mod answer;
-pub mod bytes;
 pub mod ledger;
-pub mod outline;
-pub mod post;
 pub mod posting;
 pub mod posts;
 pub mod report;

@@ -2,6 +2,8 @@
 ghost use mathlib.Core.Path.{_≡_};
 ghost use Prim.Native.Nat.{ℕ, _*_, _^_, _≤_, _<_};
 ghost use lib.ListN.{length, getD};
+ghost use Rattle.amounts.specs.Loss as losses;
+ghost use Rattle.layout.specs.Post.{lossOver, amountWith};
 ghost use Rattle.book.specs.Answer.{outcome};
 ghost use Rattle.book.specs.Ledger.{held, cell, total};
 ghost use Rattle.book.specs.Posting.{storeAfter, sumsAfter, handledAfter, hasRoom, isThere, postOn, readOf, readAnswer, admitted, Entry};
@@ -9,17 +11,21 @@ ghost use Rattle.book.specs.Site.{Sound};
 use crate::answer::Answered;
 use crate::ledger;
 use crate::ledger::HELD;
-use crate::outline;
-use crate::outline::Outline;
-use crate::post;
-use crate::post::Post;
-use crate::post::PostRead;
 use crate::posts;
 use crate::site::Book;
+use amounts::coefficient;
 use amounts::decline;
 use amounts::decline::Decline;
+use amounts::form;
+use amounts::form::Inputs;
 use amounts::form::InputsRead;
+use amounts::loss;
 use amounts::loss::Loss;
+use layout::outline;
+use layout::outline::Outline;
+use layout::post;
+use layout::post::Post;
+use layout::post::PostRead;
 
 // A post, and the micrograms that it brings or moves.
 pub struct Reading {
@@ -30,6 +36,32 @@ pub struct Reading {
 pub enum ReadingAnswer {
     Read(Reading),
     Declined(Decline),
+}
+
+// The loss of a vapour post whose floats were read, and none of another post.
+fn loss_for(numbers: &[u16; 8], p: Post, x: Inputs) -> Loss
+    requires { ⌜ p .substance < 8 ⌝ }
+    ensures { λ r. ⌜ losses.answer r ≡ lossOver (now (numbers .entry)) p x ⌝ }
+{
+    if p.kind != 12 {
+        return Loss::Micrograms(0);
+    }
+    let number = numbers[p.substance as usize];
+    loss::loss_of(form::form_at(p.material, x), coefficient::row_of(number))
+}
+
+// The micrograms that a post brings or moves, its loss being known.
+fn amount(p: Post, loss: u64) -> u64
+    requires { ⌜ p .quantity * p .content < 2 ^ 64 ⌝ }
+    ensures { λ r. ⌜ r ≡ amountWith p loss ⌝ }
+{
+    if p.kind == 12 {
+        return loss;
+    }
+    if p.kind == 4 {
+        return p.quantity;
+    }
+    p.quantity * (p.content as u64)
 }
 
 fn read(o: Outline, numbers: &[u16; 8], closed: bool, s: &[u8]) -> ReadingAnswer
@@ -48,10 +80,10 @@ fn read(o: Outline, numbers: &[u16; 8], closed: bool, s: &[u8]) -> ReadingAnswer
     let InputsRead::Values(x) = post::read_floats(p) else {
         return ReadingAnswer::Declined(decline::RANGE);
     };
-    match post::loss_for(numbers, p, x) {
+    match loss_for(numbers, p, x) {
         Loss::Micrograms(loss) => ReadingAnswer::Read(Reading {
             post: p,
-            amount: post::amount(p, loss),
+            amount: amount(p, loss),
         }),
         Loss::Declined(d) => ReadingAnswer::Declined(d),
     }

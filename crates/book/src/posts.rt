@@ -3,21 +3,22 @@ ghost use mathlib.Core.Path.{_≡_};
 ghost use Prim.Native.Nat.{_*_, _≤_};
 ghost use lib.ListN.{length};
 ghost use Rattle.amounts.specs.Decline.{checked};
-ghost use Rattle.book.specs.Answer.{verdictOf, outcome};
+ghost use Rattle.layout.specs.Verdict.{verdictOf};
+ghost use Rattle.book.specs.Answer.{outcome};
 ghost use Rattle.book.specs.Posts.{partOf, takenTo, ownChecks, postsOn};
 ghost use Rattle.book.specs.Site.{Sound};
 use crate::answer;
 use crate::answer::Answered;
-use crate::answer::Verdict;
-use crate::bytes;
 use crate::ledger;
-use crate::outline;
-use crate::outline::Outline;
 use crate::posting;
 use crate::posting::ReadingAnswer;
-use crate::setup;
 use crate::site::Book;
 use amounts::decline;
+use layout::bytes;
+use layout::outline;
+use layout::outline::Outline;
+use layout::setup;
+use layout::verdict::Verdict;
 
 // The first n posts of the bytes, each of the given size and tried on the book that the earlier ones left. A decline has the book given in.
 pub(crate) fn take_run(b: Book, s: &[u8], size: usize, n: usize) -> Answered

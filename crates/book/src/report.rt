@@ -6,7 +6,8 @@ ghost use lib.ListN.{getD};
 ghost use Rattle.amounts.specs.Decline.{valueOr};
 ghost use Rattle.amounts.specs.Threshold.{dueOf};
 ghost use Rattle.amounts.specs.Treatment.{partsOf};
-ghost use Rattle.book.specs.Ledger.{total, noRates};
+ghost use Rattle.book.specs.Ledger.{total};
+ghost use Rattle.layout.specs.Setup.{noRates};
 ghost use Rattle.book.specs.Report.{atOne, atTwo, lineTo, sixOf, weigh, filingOf, reportOf, answer};
 ghost use Rattle.book.specs.Reporting.{cellsOf, weighCells, lineOf, addHeadings, addLines};
 ghost use Rattle.book.specs.Site.{Rated, storedTo, Sound};
@@ -21,8 +22,6 @@ use crate::ledger::SOIL;
 use crate::ledger::VAPOUR;
 use crate::ledger::WATER;
 use crate::site::Book;
-use crate::site::Rates;
-use crate::site::Setup;
 use amounts::decline;
 use amounts::decline::Decline;
 use amounts::filed;
@@ -31,6 +30,8 @@ use amounts::threshold::Due;
 use amounts::treatment;
 use amounts::treatment::Parts;
 use amounts::treatment::Split;
+use layout::setup::Rates;
+use layout::setup::Setup;
 
 // In micrograms.
 pub struct Headings {

@@ -1,28 +1,9 @@
 // The book of a site, by value: what the set-up says, and what the posts have come to.
 ghost use mathlib.Core.Path.{_≡_};
 ghost use Rattle.book.specs.Site.{freshSetup, freshBook, Sound};
-use crate::outline::Outline;
-
-// A pair's side and rates in ppm, of a stage and a substance. The side is as wide as the rates, so that a row has no unused bytes and is copied as one.
-pub struct Rates {
-    pub side: u32,
-    pub gas_removal: u32,
-    pub gas_destruction: u32,
-    pub water_removal: u32,
-    pub water_destruction: u32,
-}
-
-// What the set-up blocks say. Contents are kept as counted: for the material m and the substance s at m * 8 + s. Rates stand
-// at stage * 8 + substance.
-pub struct Setup {
-    pub(crate) outline: Outline,
-    pub(crate) numbers: [u16; 8],
-    pub(crate) classes: [u8; 8],
-    pub(crate) counted: [u32; 96],
-    pub(crate) water_to: [u8; 8],
-    pub(crate) residue_to: [u8; 8],
-    pub(crate) rates: [Rates; 64],
-}
+use layout::outline::Outline;
+use layout::setup::NO_RATES;
+use layout::setup::Setup;
 
 // The store in grams by material; the ledger's sums in micrograms, at account * 64 + stage * 8 + substance; and what was
 // handled of each substance.
@@ -35,14 +16,6 @@ pub struct Book {
     pub(crate) blocks: u32,
     pub(crate) closed: bool,
 }
-
-pub(crate) const NO_RATES: Rates = Rates {
-    side: 0,
-    gas_removal: 0,
-    gas_destruction: 0,
-    water_removal: 0,
-    water_destruction: 0,
-};
 
 fn fresh_setup() -> Setup
     ensures { λ r. ⌜ r ≡ freshSetup ⌝ }

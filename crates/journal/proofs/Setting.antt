@@ -9,14 +9,14 @@ use borrow.Author.Tests.{eq-eqb, ne-eqb}
 use lib.Dec.{eqb}
 use lib.ListN.{length, getD, drop, set}
 use lib.Seq.{drop-nil, getD-set-same, getD-set-other}
-use Rattle.book.specs.Bytes.{le}
-use Rattle.book.specs.Each.{putTo}
-use Rattle.book.specs.Ledger.{noRates}
-use Rattle.book.specs.Setup.{numbersIn, classesIn, contentsIn, countedAll, setupOf}
+use Rattle.layout.specs.Bytes.{le}
+use Rattle.layout.specs.Each.{putTo}
+use Rattle.layout.specs.Setup.{noRates, numbersIn, classesIn, contentsIn, countedAll, setupOf}
 use Rattle.book.specs.Site.{SoundSetup}
-use Rattle.book.specs.Stage.{ratesAt, rateRow, withStage}
-use Rattle.book.specs.declared.site.Setup.{Setup}
-use Rattle.book.proofs.Each.{put-at, put-other}
+use Rattle.layout.specs.Stage.{ratesAt, rateRow}
+use Rattle.book.specs.Stage.{withStage}
+use Rattle.layout.specs.declared.setup.Setup.{Setup}
+use Rattle.layout.proofs.Each.{put-at, put-other}
 use Rattle.book.proofs.site.Laws.{same-at}
 use Rattle.book.proofs.stage.Taken as stage
 use Rattle.journal.specs.Block.{countOf, bodyOf}

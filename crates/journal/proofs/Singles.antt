@@ -5,7 +5,7 @@ use Prim.Native.Nat.{ℕ, zero, suc}
 use native.Mathlib.Omega.{arith}
 use Rattle.amounts.specs.Decline.{taken, valueOr}
 use Rattle.amounts.proofs.decline.Laws.{was-taken}
-use Rattle.book.specs.Each.{listTo}
+use Rattle.layout.specs.Each.{listTo}
 use Rattle.book.specs.Posting.{postOn}
 use Rattle.book.specs.Posts.{postIn, takenTo, withBlock}
 use Rattle.book.specs.declared.site.Book.{Book}

@@ -6,10 +6,11 @@ use lib.Dec.{eqb}
 use lib.ListN.{length, getD, take, drop}
 use Rattle.amounts.specs.Decline as number
 use Rattle.amounts.specs.Decline.{Answer, declined, Check, check, checked, onTaken}
-use Rattle.book.specs.Bytes.{le, part}
-use Rattle.book.specs.Each.{sumTo}
+use Rattle.layout.specs.Bytes.{le, part}
+use Rattle.layout.specs.Each.{sumTo}
 use Rattle.book.specs.Posts.{postsOn}
-use Rattle.book.specs.Setup.{within, setUpOn}
+use Rattle.layout.specs.Setup.{within}
+use Rattle.book.specs.Setup.{setUpOn}
 use Rattle.book.specs.Stage.{describedOn}
 use Rattle.book.specs.declared.site.Book.{Book}
 

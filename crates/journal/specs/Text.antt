@@ -1,11 +1,10 @@
 -- The text of the return (document 01, "`filing`" and "Treatment and report"), as bytes of ASCII.
-use Prim.Native.Nat.{ℕ, zero, suc, _+_, _*_, _/_, _%_, _^_}
+use Prim.Native.Nat.{ℕ, zero, suc, _+_, _/_, _%_, _^_}
 use mathlib.Core.Bool.{Bool, true, false, cond}
 use mathlib.Core.List.{List, [], _∷_, _++_}
 use lib.Dec.{ltb}
 use Rattle.book.specs.declared.report.Filing.{Filing}
 use Rattle.book.specs.declared.report.Filing.the-variants.{Figures, NotDue}
-use Rattle.book.specs.declared.report.Headings.{Headings}
 use Rattle.book.specs.declared.report.Report.{Report}
 
 -- "Each line ends with a line feed and has one space between fields."

@@ -3,14 +3,15 @@ ghost use mathlib.Core.Path.{_≡_};
 ghost use Prim.Native.Nat.{_≤_};
 ghost use lib.ListN.{length};
 ghost use Rattle.amounts.specs.Decline.{checked};
-ghost use Rattle.book.specs.Answer.{verdictOf, outcome};
-ghost use Rattle.book.specs.Setup.{within};
+ghost use Rattle.layout.specs.Verdict.{verdictOf};
+ghost use Rattle.book.specs.Answer.{outcome};
+ghost use Rattle.layout.specs.Setup.{within};
 ghost use Rattle.book.specs.Site.{Sound};
 ghost use Rattle.journal.specs.Block.{hasTag, plainSum, weightedSum, frameChecks, blockOn};
 use amounts::decline;
 use book::answer::Answered;
-use book::answer::Verdict;
 use book::site::Book;
+use layout::verdict::Verdict;
 
 // The sum of bytes, and of each byte times its place from 1, both modulo 65,521.
 pub struct CheckSums {
@@ -21,16 +22,16 @@ pub struct CheckSums {
 fn has_tag(s: &[u8]) -> bool
     ensures { λ r. ⌜ r ≡ hasTag (now (s .entry)) ⌝ }
 {
-    if book::bytes::byte_at(s, 0) != 80 {
+    if layout::bytes::byte_at(s, 0) != 80 {
         return false;
     }
-    if book::bytes::byte_at(s, 1) != 82 {
+    if layout::bytes::byte_at(s, 1) != 82 {
         return false;
     }
-    if book::bytes::byte_at(s, 2) != 84 {
+    if layout::bytes::byte_at(s, 2) != 84 {
         return false;
     }
-    book::bytes::byte_at(s, 3) == 82
+    layout::bytes::byte_at(s, 3) == 82
 }
 
 fn check_sums(s: &[u8]) -> CheckSums
@@ -79,16 +80,16 @@ fn check_frame(number: u32, s: &[u8]) -> Verdict
         return Verdict::Declined(decline::NO_BLOCK);
     }
     let sums = check_sums(&s[..508]);
-    if book::bytes::le16(s, 508) != sums.plain {
+    if layout::bytes::le16(s, 508) != sums.plain {
         return Verdict::Declined(decline::CHECK_SUM);
     }
-    if book::bytes::le16(s, 510) != sums.weighted {
+    if layout::bytes::le16(s, 510) != sums.weighted {
         return Verdict::Declined(decline::CHECK_SUM);
     }
     if !is_kind(s[4]) {
         return Verdict::Declined(decline::NUMBER);
     }
-    let own = book::bytes::le16(s, 6);
+    let own = layout::bytes::le16(s, 6);
     if own as u32 != number {
         return Verdict::Declined(decline::NUMBER);
     }

@@ -9,11 +9,11 @@ use crate::block;
 use crate::text;
 use crate::text::Written;
 use amounts::decline::Decline;
-use book::answer::Verdict;
 use book::report;
 use book::report::Reported;
 use book::site;
 use book::site::Book;
+use layout::verdict::Verdict;
 
 pub enum Stopped {
     No,

@@ -1,10 +1,10 @@
 // The parts of a line. A field of a report has a space before it.
-use book::answer::Verdict;
 use book::report::Filing;
 use book::report::Headings;
 use book::report::Line;
 use book::report::Report;
 use book::report::Reported;
+use layout::verdict::Verdict;
 use libc::STDOUT_FILENO;
 
 pub(crate) fn text(bytes: &[u8]) {

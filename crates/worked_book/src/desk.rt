@@ -2,12 +2,12 @@
 ghost use Rattle.book.specs.Site.{Sound};
 use crate::line;
 use crate::posts;
-use book::post::Post;
 use book::posting;
 use book::report;
 use book::setup;
 use book::site::Book;
 use book::stage;
+use layout::post::Post;
 
 pub(crate) fn give(b: Book, p: Post) -> Book
     requires { ⌜ Sound b ⌝ }

@@ -6,8 +6,8 @@ use crate::posts;
 use crate::posts::Field;
 use crate::sites;
 use crate::trials;
-use book::post::Post;
 use book::site::Book;
+use layout::post::Post;
 
 const ONE: u64 = 0x3ff0000000000000;
 

@@ -1,11 +1,11 @@
 // The parts of a line: what was called, numbers with a space before each, and the answer, which ends the line.
 use amounts::decline::Decline;
-use book::answer::Verdict;
-use book::post::Post;
 use book::report::Filing;
 use book::report::Headings;
 use book::report::Report;
 use book::report::Reported;
+use layout::post::Post;
+use layout::verdict::Verdict;
 use libc::STDOUT_FILENO;
 
 pub(crate) fn text(bytes: &[u8]) {

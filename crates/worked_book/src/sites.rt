@@ -2,12 +2,12 @@
 ghost use Rattle.book.specs.Site.{Sound};
 use crate::bodies;
 use crate::posts;
-use book::post::Post;
 use book::posting;
 use book::setup;
 use book::site;
 use book::site::Book;
 use book::stage;
+use layout::post::Post;
 
 // The first material is full, the second holds 81 only.
 pub(crate) fn materials() -> [u8; 500] {

@@ -9,10 +9,11 @@ use native.Mathlib.Omega.{arith}
 use lib.Dec.{eqb}
 use lib.ListN.{length, getD, set, length-set}
 use lib.Seq.{getD-set-same, getD-set-other}
-use Rattle.book.specs.Each.{sumTo, putTo}
-use Rattle.book.specs.Ledger.{held, water, gas, at, cellOf, cell, total, moved, raised, noRates, closesTo, settled}
-use Rattle.book.specs.declared.site.Rates.{Rates}
-use Rattle.book.proofs.Each.{put-again, length-put, put-other, put-at}
+use Rattle.layout.specs.Each.{sumTo, putTo}
+use Rattle.book.specs.Ledger.{held, water, gas, at, cellOf, cell, total, moved, raised, closesTo, settled}
+use Rattle.layout.specs.Setup.{noRates}
+use Rattle.layout.specs.declared.setup.Rates.{Rates}
+use Rattle.layout.proofs.Each.{put-again, length-put, put-other, put-at}
 use Rattle.book.proofs.Sums.{sum-same, sum-point, term-le}
 
 -- ---- one write

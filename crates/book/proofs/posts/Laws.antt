@@ -11,24 +11,24 @@ use lib.ListN.{length, getD}
 use Rattle.amounts.specs.Decline.{Answer, taken, declined, checked, onTaken}
 use Rattle.amounts.proofs.decline.Laws.{was-taken}
 use Rattle.book.specs.Answer.{outcome}
-use Rattle.book.specs.Each.{sumTo}
+use Rattle.layout.specs.Each.{sumTo}
 use Rattle.book.specs.Entered.{enters, handles}
-use Rattle.book.specs.Outline.{mayPost}
-use Rattle.book.specs.Post.{postAt}
+use Rattle.layout.specs.Outline.{mayPost}
+use Rattle.layout.specs.Post.{postAt}
 use Rattle.book.specs.Posting.{postOn}
 use Rattle.book.specs.Posts.{postIn, takenTo, ownChecks, postsOn, withBlock}
 use Rattle.book.specs.Site.{Sound, content}
 use Rattle.book.specs.declared.answer.Answered.{Answered}
-use Rattle.book.specs.declared.answer.Verdict.{Verdict}
-use Rattle.book.specs.declared.answer.Verdict.the-variants.{Accepted}
-use Rattle.book.specs.declared.outline.Outline.{Outline}
+use Rattle.layout.specs.declared.verdict.Verdict.{Verdict}
+use Rattle.layout.specs.declared.verdict.Verdict.the-variants.{Accepted}
+use Rattle.layout.specs.declared.outline.Outline.{Outline}
 use Rattle.book.specs.declared.site.Book.{Book}
-use Rattle.book.specs.declared.site.Setup.{Setup}
-use Rattle.book.proofs.Each.{sum-again, sum-none}
+use Rattle.layout.specs.declared.setup.Setup.{Setup}
+use Rattle.layout.proofs.Each.{sum-again, sum-none}
 use Rattle.book.proofs.answer.Laws.{was-accepted}
 use Rattle.book.proofs.posting.Checks.{passed, post-was-taken}
 use Rattle.book.proofs.posting.Laws.{Step, applied-step}
-use Rattle.book.proofs.setup.Laws.{within-true}
+use Rattle.layout.proofs.setup.Laws.{within-true}
 
 -- ---- posts in turn
 

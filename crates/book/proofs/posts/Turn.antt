@@ -14,7 +14,7 @@ use Rattle.book.specs.Posts.{partOf, takenTo}
 use Rattle.book.specs.Site.{Sound}
 use Rattle.book.specs.declared.posting.Reading.{Reading}
 use Rattle.book.specs.declared.site.Book.{Book}
-use Rattle.book.specs.declared.site.Setup.{Setup}
+use Rattle.layout.specs.declared.setup.Setup.{Setup}
 use Rattle.book.proofs.posting.Checks.{not-admitted, was-admitted, admitted-applies}
 use Rattle.book.proofs.posting.Laws.{applied-lists, applied-close, entry-of, total-few, handled-few}
 use Rattle.book.proofs.posts.Laws.{none-yet, taken-next, many-taken}

@@ -9,18 +9,19 @@ use lib.ListN.{length, getD, drop, set, length-set}
 use borrow.Author.Tests.{eqb-true, ne-eqb, leb-true, ltb-true}
 use Rattle.amounts.specs.Content.{isPpm}
 use Rattle.amounts.specs.Decline.{taken, checked}
-use Rattle.book.specs.Answer.{verdictOf}
-use Rattle.book.specs.Ledger.{noRates}
-use Rattle.book.specs.Setup.{within, withSetup}
+use Rattle.layout.specs.Verdict.{verdictOf}
+use Rattle.layout.specs.Setup.{noRates, within}
+use Rattle.book.specs.Setup.{withSetup}
 use Rattle.book.specs.Site.{Sound, SoundSetup, Rated}
-use Rattle.book.specs.Stage.{rateRow, ratesFit, allRatesFit, stageChecks, withStage, describedOn}
-use Rattle.book.specs.declared.answer.Verdict.the-variants.{Accepted}
-use Rattle.book.specs.declared.outline.Outline.{Outline}
+use Rattle.layout.specs.Stage.{rateRow, ratesFit, allRatesFit, stageChecks}
+use Rattle.book.specs.Stage.{withStage, describedOn}
+use Rattle.layout.specs.declared.verdict.Verdict.the-variants.{Accepted}
+use Rattle.layout.specs.declared.outline.Outline.{Outline}
 use Rattle.book.specs.declared.site.Book.{Book}
-use Rattle.book.specs.declared.site.Rates.{Rates}
-use Rattle.book.specs.declared.site.Setup.{Setup}
-use Rattle.book.proofs.Each.{and-true, all-at, length-put, put-keeps}
-use Rattle.book.proofs.answer.Laws.{first, took}
+use Rattle.layout.specs.declared.setup.Rates.{Rates}
+use Rattle.layout.specs.declared.setup.Setup.{Setup}
+use Rattle.layout.proofs.Each.{and-true, all-at, length-put, put-keeps}
+use Rattle.layout.proofs.verdict.Laws.{first, took}
 use Rattle.book.proofs.site.Laws.{sound-setup}
 
 pub fit-rated : (r : Rates) → ratesFit r ≡ true → Rated r

@@ -1,20 +1,19 @@
 -- A block whose frame passes is what its kind does, and one whose frame fails is declined by it. Assumes nothing.
-use mathlib.Core.Path.{_≡_, refl, sym, ap, _∙_}
+use mathlib.Core.Path.{_≡_, sym, ap, _∙_}
 use mathlib.Core.List.{List}
 use Prim.Native.Nat.{ℕ}
 use borrow.Author.Tests.{eqb-true, eq-eqb, ne-eqb}
-use native.Mathlib.Omega.{arith}
 use lib.ListN.{length}
-use Rattle.amounts.specs.Decline.{Answer, taken, declined, checked, onTaken}
+use Rattle.amounts.specs.Decline.{Answer, declined, checked, onTaken}
 use Rattle.amounts.specs.declared.decline.Decline.{Decline}
-use Rattle.book.specs.Answer.{verdictOf}
+use Rattle.layout.specs.Verdict.{verdictOf}
 use Rattle.book.specs.Posts.{postsOn}
 use Rattle.book.specs.Setup.{setUpOn}
 use Rattle.book.specs.Stage.{describedOn}
-use Rattle.book.specs.declared.answer.Verdict.{Verdict}
-use Rattle.book.specs.declared.answer.Verdict.the-variants.{Accepted, Declined}
+use Rattle.layout.specs.declared.verdict.Verdict.{Verdict}
+use Rattle.layout.specs.declared.verdict.Verdict.the-variants.{Accepted, Declined}
 use Rattle.book.specs.declared.site.Book.{Book}
-use Rattle.book.proofs.answer.Laws.{accepts, declines, first}
+use Rattle.layout.proofs.verdict.Laws.{accepts, declines, first}
 use Rattle.journal.specs.Block.{kindOf, countOf, bodyOf, frameChecks, byKind, blockOn}
 
 -- what the frame's verdict tells, the number being the book's

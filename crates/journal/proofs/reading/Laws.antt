@@ -1,5 +1,5 @@
 -- A journal that is fed part by part prints what its bytes say. Assumes nothing.
-use mathlib.Core.Path.{_≡_, refl, sym, ap, ap₂, subst, _∙_}
+use mathlib.Core.Path.{_≡_, refl, sym, ap, subst, _∙_}
 use mathlib.Core.Bool.{true, false}
 use mathlib.Core.List.{List, [], _∷_, _++_}
 use Prim.Native.Nat.{ℕ, suc, _+_, _*_, _≤_, _<_}
@@ -19,7 +19,7 @@ use Rattle.amounts.specs.declared.decline.Decline.{Decline}
 use Rattle.book.specs.Answer.{outcome}
 use Rattle.book.specs.Site.{freshBook, Sound}
 use Rattle.book.specs.declared.answer.Answered.{Answered}
-use Rattle.book.specs.declared.answer.Verdict.the-variants.{Accepted, Declined}
+use Rattle.layout.specs.declared.verdict.Verdict.the-variants.{Accepted, Declined}
 use Rattle.book.specs.declared.site.Book.{Book}
 use Rattle.book.proofs.answer.Laws.{was-accepted, was-declined}
 use Rattle.book.proofs.posts.Laws.{many-taken, posts-taken, posts-sound}
@@ -29,7 +29,7 @@ use Rattle.book.proofs.site.Laws.{sound-fresh}
 use Rattle.journal.specs.Block.{countOf, bodyOf, blockOn}
 use Rattle.book.specs.Posts.{postIn}
 use Rattle.journal.specs.Demand.{block}
-use Rattle.journal.specs.Reading.{partsOf, Outcome, read, refused, onward, readAll, linesTo, returnText, outcomeText, filingOf, started, afterBlock, fedWhile, fed, fedAll, textWhile, textOf}
+use Rattle.journal.specs.Reading.{partsOf, onward, readAll, linesTo, returnText, outcomeText, filingOf, started, afterBlock, fedWhile, fed, fedAll, textWhile, textOf}
 use Rattle.journal.specs.Text.{title, lineText, refusedText}
 use Rattle.journal.specs.Writing.{Room, Puts, Tries}
 use Rattle.journal.specs.declared.text.Written.the-variants.{At, NoRoom}

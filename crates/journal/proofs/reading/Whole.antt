@@ -12,7 +12,7 @@ use Rattle.amounts.specs.declared.decline.Decline.{Decline}
 use Rattle.book.specs.Answer.{outcome}
 use Rattle.book.specs.Site.{Sound, freshBook}
 use Rattle.book.specs.declared.answer.Answered.{Answered}
-use Rattle.book.specs.declared.answer.Verdict.the-variants.{Accepted, Declined}
+use Rattle.layout.specs.declared.verdict.Verdict.the-variants.{Accepted, Declined}
 use Rattle.book.specs.declared.site.Book.{Book}
 use Rattle.journal.specs.Block.{blockOn}
 use Rattle.journal.specs.Reading.{partsTo, partsOf, started, fed, fedAll}

@@ -3,7 +3,7 @@ use mathlib.Core.Path.{_≡_, ap, _∙_}
 use Prim.Native.Nat.{_-_, _≤_}
 use borrow.Author.Needs.{needs}
 use native.Mathlib.Omega.{arith}
-use Rattle.book.specs.Each.{putTo}
+use Rattle.layout.specs.Each.{putTo}
 use Rattle.book.specs.Ledger.{held, cellOf, raised, brings}
 use Rattle.book.proofs.ledger.Laws.{own-place, raised-room, raised-again}
 use Rattle.book.proofs.ledger.hold.Statement.{statement}

@@ -5,7 +5,7 @@ use borrow.Author.Needs.{needs}
 use Rattle.amounts.specs.Decline.{taken}
 use Rattle.book.specs.Posting.{hasRoom, readOf, readAnswer}
 use Rattle.book.specs.declared.posting.Reading.{Reading}
-use Rattle.book.proofs.answer.Laws.{holds, misses}
+use Rattle.layout.proofs.verdict.Laws.{holds, misses}
 use Rattle.book.proofs.posting.Checks.{in-place, unread, no-room, too-little, all-there}
 use Rattle.book.proofs.posting.admit.Statement.{statement}
 use Rattle.book.proofs.posting.admit.Tie as tie

@@ -6,10 +6,10 @@ use borrow.Author.Needs.{needs}
 use Rattle.amounts.specs.Loss.{answer}
 use Rattle.amounts.specs.declared.form.Inputs.{Inputs}
 use Rattle.amounts.proofs.form.Laws.{read, refused}
-use Rattle.book.specs.Outline.{mayPost}
-use Rattle.book.specs.Post.{postAt, layoutFits, floatsFit, floatsOf}
-use Rattle.book.specs.declared.post.Post.{Post}
-use Rattle.book.proofs.post.Laws.{Bounds, post-read, post-refused, read-bounds}
+use Rattle.layout.specs.Outline.{mayPost}
+use Rattle.layout.specs.Post.{postAt, layoutFits, floatsFit, floatsOf}
+use Rattle.layout.specs.declared.post.Post.{Post}
+use Rattle.layout.proofs.post.Laws.{Bounds, post-read, post-refused, read-bounds}
 use Rattle.book.proofs.posting.Checks.{out-of-turn, after-close, out-of-layout, out-of-range, no-loss, loss-known}
 use denote.Ref.{now}
 use Rattle.book.proofs.posting.read.Statement.{statement}

@@ -8,14 +8,14 @@ use lib.ListN.{drop}
 use borrow.Author.Needs.{needs}
 use borrow.Author.Tests.{eq-eqb, ne-eqb}
 use Rattle.amounts.specs.Decline.{checked}
-use Rattle.book.specs.Answer.{verdictOf}
-use Rattle.book.specs.Bytes.{allZero}
+use Rattle.layout.specs.Verdict.{verdictOf}
+use Rattle.layout.specs.Bytes.{allZero}
 use Rattle.book.specs.Posts.{ownChecks}
-use Rattle.book.specs.declared.answer.Verdict.{Verdict}
-use Rattle.book.specs.declared.outline.Outline.{Outline}
-use Rattle.book.proofs.answer.Laws.{holds, misses, past, stop, through}
-use Rattle.book.proofs.bytes.Laws.{tail-is}
-use Rattle.book.proofs.setup.Laws.{within-true}
+use Rattle.layout.specs.declared.verdict.Verdict.{Verdict}
+use Rattle.layout.specs.declared.outline.Outline.{Outline}
+use Rattle.layout.proofs.verdict.Laws.{holds, misses, past, stop, through}
+use Rattle.layout.proofs.bytes.Laws.{tail-is}
+use Rattle.layout.proofs.setup.Laws.{within-true}
 use Rattle.book.proofs.posts.check_posts.Statement.{statement}
 use Rattle.book.proofs.posts.check_posts.Tie as tie
 

@@ -6,7 +6,8 @@ use Rattle.amounts.specs.Decline.{taken}
 use Rattle.book.specs.Answer.{outcome}
 use Rattle.book.specs.Posts.{postIn, takenTo, ownChecks, postsOn}
 use Rattle.book.specs.Site.{Sound}
-use Rattle.book.proofs.answer.Laws.{accepts, declines, stays, was-declined}
+use Rattle.layout.proofs.verdict.Laws.{accepts, declines}
+use Rattle.book.proofs.answer.Laws.{stays, was-declined}
 use Rattle.book.proofs.posts.Laws.{owned, own, own-declined, post-declined, block-taken}
 use Rattle.book.proofs.posts.take_posts.Statement.{statement}
 use Rattle.book.proofs.posts.take_posts.Tie as tie

@@ -4,10 +4,10 @@ use Prim.Native.Nat.{ℕ, _+_, _-_, _≤_}
 use native.Mathlib.Omega.{arith}
 use lib.ListN.{getD}
 use denote.Ref.{now}
-use Rattle.book.specs.Each.{sumTo}
+use Rattle.layout.specs.Each.{sumTo}
 use Rattle.book.specs.Ledger.{brings}
 use Rattle.book.specs.Site.{storedTo}
-use Rattle.book.proofs.Each.{sum-again}
+use Rattle.layout.proofs.Each.{sum-again}
 use Rattle.book.proofs.Sums.{term-le, sum-mono}
 use Rattle.book.proofs.report.stored_of.Statement.{statement}
 use Rattle.book.proofs.report.stored_of.Tie as tie

@@ -1,8 +1,9 @@
 use mathlib.Core.Path.{sym, ap, _∙_}
 use denote.Ref.{now}
-use Rattle.book.specs.Setup.{setupChecks, setupOf, setUpOn, withSetup}
+use Rattle.layout.specs.Setup.{setupChecks, setupOf}
+use Rattle.book.specs.Setup.{setUpOn, withSetup}
 use Rattle.book.specs.Site.{Sound}
-use Rattle.book.specs.declared.site.Setup.{Setup}
+use Rattle.layout.specs.declared.setup.Setup.{Setup}
 use Rattle.book.proofs.answer.Laws.{refuses, grants}
 use Rattle.book.proofs.setup.Taken.{Accepts, accepted, sound-set-up}
 use borrow.Author.Needs.{needs}
@@ -27,7 +28,7 @@ enum-told : tie.Need-enum-told
 enum-told c = search needs
 
 parse-requires : tie.Need-parse-requires
-parse-requires c κs = taken c .long
+parse-requires c κs = search needs
 
 add-c : tie.Need-add-c
 add-c c = search needs

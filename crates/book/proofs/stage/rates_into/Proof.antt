@@ -3,9 +3,9 @@ use mathlib.Core.Path.{_≡_, refl}
 use denote.Ref.{now}
 use Prim.Native.Nat.{_+_, _≤_, _-_}
 use borrow.Author.Needs.{needs}
-use Rattle.book.specs.Each.{putTo}
-use Rattle.book.specs.Stage.{rateRow}
-use Rattle.book.proofs.Each.{put-again, put-done}
+use Rattle.layout.specs.Each.{putTo}
+use Rattle.layout.specs.Stage.{rateRow}
+use Rattle.layout.proofs.Each.{put-again, put-done}
 use Rattle.book.proofs.stage.rates_into.Statement.{statement}
 use Rattle.book.proofs.stage.rates_into.Tie as tie
 

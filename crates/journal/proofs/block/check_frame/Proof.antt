@@ -7,9 +7,9 @@ use borrow.Author.Tests.{eq-eqb, ne-eqb}
 use borrow.Author.Needs.{needs}
 use denote.Ref.{now}
 use Rattle.amounts.specs.Decline.{checked}
-use Rattle.book.specs.declared.answer.Verdict.{Verdict}
-use Rattle.book.specs.Answer.{verdictOf}
-use Rattle.book.proofs.answer.Laws.{holds, misses, past, stop, through}
+use Rattle.layout.specs.declared.verdict.Verdict.{Verdict}
+use Rattle.layout.specs.Verdict.{verdictOf}
+use Rattle.layout.proofs.verdict.Laws.{holds, misses, past, stop, through}
 use Rattle.journal.specs.declared.block.CheckSums.{CheckSums}
 use Rattle.journal.specs.Block.{frameChecks}
 use Rattle.journal.proofs.block.check_frame.Statement.{statement}

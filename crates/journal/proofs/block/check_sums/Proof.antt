@@ -7,8 +7,8 @@ use native.Mathlib.Omega.{arith}
 use lib.ListN.{length, getD}
 use borrow.Author.Needs.{needs}
 use denote.Ref.{now}
-use Rattle.book.specs.Each.{sumTo}
-use Rattle.book.proofs.Each.{sum-again}
+use Rattle.layout.specs.Each.{sumTo}
+use Rattle.layout.proofs.Each.{sum-again}
 use Rattle.journal.specs.Block.{plainSum, weightedSum}
 use Rattle.journal.proofs.block.check_sums.Statement.{statement}
 use Rattle.journal.proofs.block.check_sums.Tie as tie

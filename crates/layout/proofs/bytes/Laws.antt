@@ -1,0 +1,44 @@
+-- Numbers in bytes, one law for every width. Assumes nothing.
+use mathlib.Core.Path.{_≡_, refl, sym, _∙_}
+use mathlib.Core.List.{List, [], _∷_}
+use Prim.Native.Nat.{ℕ, zero, suc, _+_, _-_, _*_, _^_, _≤_, _<_}
+use native.Mathlib.Decide.{decLt}
+use native.Mathlib.Nat.{zero-add, one-mul, suc-add, mul-zero, mul-assoc, pow-succ'}
+use native.Mathlib.Omega.{arith}
+use lib.ListN.{length, getD, take, drop, length-drop, drop-of-length-le, List·getD-eq-default}
+use lib.Seq.{drop-cons, drop-drop, take-all}
+use Rattle.layout.specs.Bytes.{le}
+
+le-nil : (n : ℕ) → le n [] ≡ 0
+unfolding le
+le-nil zero = refl
+le-nil (suc n) = refl
+
+-- past the end
+pub le-out : (n at : ℕ) (s : List ℕ) → length s ≤ at → le n (drop at s) ≡ 0
+le-out n at s h = rw (drop-of-length-le s h) (le-nil n)
+
+-- a number of m + n bytes: the low m, and the high n times 256 ^ m
+split : (m n : ℕ) (s : List ℕ) → le (m + n) s ≡ le m s + 256 ^ m * le n (drop m s)
+unfolding le
+split zero n s = simp (zero-add, one-mul)
+split (suc m) n [] = simp (le-nil, mul-zero, zero-add)
+split (suc m) n (x ∷ s) = let ih = split m n s in rw (suc-add, pow-succ', mul-assoc) (omega arith)
+
+pub split-at : (m n at : ℕ) (s : List ℕ) → le (m + n) (drop at s) ≡ le m (drop at s) + 256 ^ m * le n (drop (at + m) s)
+split-at m n at s = rw (← drop-drop m at s) (split m n (drop at s))
+
+pub one : (at : ℕ) (s : List ℕ) → le 1 (drop at s) ≡ getD s at 0
+unfolding le
+one at s = go (decLt at (length s))
+  where
+    go : Dec (at < length s) → le 1 (drop at s) ≡ getD s at 0
+    go (yes h) = rw (drop-cons s at 0) (omega arith)
+    go (no h) = le-out 1 at s (omega arith) ∙ sym (List·getD-eq-default s 0 (omega arith))
+
+pub two : (at : ℕ) (s : List ℕ) → le 2 (drop at s) ≡ getD s at 0 + 256 * getD s (at + 1) 0
+two at s = omega (arith, one at s, one (at + 1) s, split-at 1 1 at s)
+
+-- what `&s[from..]` is
+pub tail-is : (from : ℕ) (s : List ℕ) → take (length s - from) (drop from s) ≡ drop from s
+tail-is from s = take-all (length s - from) (drop from s) (simp length-drop (omega arith))

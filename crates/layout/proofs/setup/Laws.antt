@@ -1,0 +1,84 @@
+-- Reading a set-up's numbers, and its rows. Assumes nothing.
+use mathlib.Core.Path.{_≡_, sym, ap, _∙_}
+use mathlib.Core.Bool.{Bool, true, false}
+use mathlib.Core.List.{List}
+use Rattle.layout.specs.declared.setup.Setup.{Setup}
+use Rattle.layout.specs.Setup.{within, materialsIn, stagesIn, noRates, numbersIn, classesIn, contentsIn, countedAll, setupOf, numberAt, before, rising, rowSum, rowFits}
+use Prim.Native.Nat.{ℕ, _+_, _-_, _*_, _≤_, _<_}
+use native.Mathlib.Numerals.{add-one}
+use native.Mathlib.Omega.{arith}
+use lib.Dec.{ltb, leb}
+use lib.ListN.{length, getD, take, drop, set, replicate}
+use lib.Seq.{drop-drop}
+use borrow.Author.Tests.{lt-ltb, le-ltb, le-leb, lt-leb, leb-true}
+use Rattle.layout.specs.Bytes.{le, les, allZero}
+use Rattle.layout.specs.Each.{allTo, putTo}
+use Rattle.layout.proofs.bytes.Laws.{tail-is}
+use Rattle.layout.proofs.Each.{put-again, fill-done, and-true, all-again, all-fails}
+
+pub within-true : (low high n : ℕ) → within low high n ≡ true → (low ≤ n) × (n ≤ high)
+within-true low high n e = let h = and-true (leb low n) (leb n high) e in (leb-true low n (h .0), leb-true n high (h .1))
+
+-- ---- numbers of w bytes, one after the other
+
+-- an array of n places, the first i of them read from a place of s on
+abbrev pub filled : ℕ → ℕ → ℕ → List ℕ → ℕ → List ℕ
+filled w n at s i = putTo (λ k. k) (λ k. le w (drop (k * w) (drop at s))) (replicate n 0) i
+
+module _ (w n at : ℕ) (s : List ℕ) (i : ℕ) (out : List ℕ) (inv : out ≡ filled w n at s i) where
+  pub filled-again : (v : ℕ) → v ≡ le w (drop (at + i * w) s) → set out i v ≡ filled w n at s (i + 1)
+  filled-again v e =
+      put-again (λ k. k) (λ k. le w (drop (k * w) (drop at s))) (replicate n 0) i out v inv
+      (e ∙ ap (λ (l : List ℕ). le w l) (sym (drop-drop (i * w) at s)))
+
+  pub filled-done : i ≤ n → n ≤ i → out ≡ les w n (drop at s)
+  filled-done h g = fill-done n (λ k. le w (drop (k * w) (drop at s))) 0 i out h g inv
+
+-- ---- rising numbers
+
+abbrev pub rises : List ℕ → ℕ → Bool
+rises s i = ltb (before s i) (numberAt s i)
+
+module _ (n : ℕ) (s : List ℕ) (i last x : ℕ) (was : last ≡ before s i) (is : x ≡ numberAt s i) where
+  pub falls : i < n → x ≤ last → false ≡ rising n s
+  falls h g = all-fails n (rises s) i h (le-ltb (before s i) (numberAt s i) (omega arith))
+
+  pub rises-again : allTo i (rises s) ≡ true → last < x → (x ≡ before s (i + 1)) × (allTo (i + 1) (rises s) ≡ true)
+  rises-again all g = (rw add-one is, all-again i (rises s) all (lt-ltb (before s i) (numberAt s i) (omega arith)))
+
+-- ---- rows
+
+module _ (k : ℕ) (s : List ℕ) (i : ℕ) where
+  -- the ith row, as the code takes it
+  abbrev row : List ℕ
+  row = take (length s - i * 32) (drop (i * 32) s)
+
+  pub heavy : (v : ℕ) → v ≡ rowSum row → 1000000 < v → rowFits k (drop (i * 32) s) ≡ false
+  heavy v e h = rw (← tail-is (i * 32) s, ← e, lt-leb v 1000000 h)
+
+  pub fits : (v : ℕ) (z : Bool) → v ≡ rowSum row → v ≤ 1000000 → z ≡ allZero (take (32 - k * 4) (drop (k * 4) row)) → rowFits k (drop (i * 32) s) ≡ z
+  fits v z e h u = rw (← tail-is (i * 32) s, ← e, le-leb v 1000000 h, u)
+
+-- ---- the set-up read
+
+abbrev read : ℕ → ℕ → ℕ → List ℕ → List ℕ → List ℕ → Setup
+read count materials stages numbers classes counted =
+    record {
+      outline = record { substances = count; materials = materials; stages = stages; described = 0 };
+      numbers = numbers;
+      classes = classes;
+      counted = counted;
+      «water_to» = replicate 8 0;
+      «residue_to» = replicate 8 0;
+      rates = replicate 64 noRates;
+    }
+
+pub parsed : (count materials stages : ℕ) (body numbers classes contents counted : List ℕ) → materials ≡ materialsIn body → stages ≡ stagesIn body
+    → numbers ≡ numbersIn body → classes ≡ classesIn body → contents ≡ contentsIn body → counted ≡ countedAll classes contents
+    → read count materials stages numbers classes counted ≡ setupOf count body
+parsed count materials stages body numbers classes contents counted m k p q r e =
+    ap (λ n. read count n stages numbers classes counted) m
+    ∙ ap (λ n. read count (materialsIn body) n numbers classes counted) k
+    ∙ ap (λ l. read count (materialsIn body) (stagesIn body) l classes counted) p
+    ∙ ap (λ l. read count (materialsIn body) (stagesIn body) (numbersIn body) l counted) q
+    ∙ ap (λ l. read count (materialsIn body) (stagesIn body) (numbersIn body) (classesIn body) l) (e ∙ ap (λ l. countedAll l contents) q ∙ ap (countedAll (classesIn body)) r)

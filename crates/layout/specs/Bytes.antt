@@ -1,0 +1,25 @@
+-- Stored numbers and zero places (document 01, "Amounts": "Stored numbers are little-endian").
+use Prim.Native.Nat.{ℕ, zero, suc, _+_, _-_, _*_}
+use mathlib.Core.Bool.{Bool}
+use mathlib.Core.List.{List, [], _∷_}
+use lib.Dec.{eqb}
+use lib.ListN.{length, getD, take, drop}
+use Rattle.layout.specs.Each.{allTo, listTo}
+
+-- the number that the first n bytes are, the lowest first; a byte that is missing counts as 0
+unfoldable pub le : ℕ → List ℕ → ℕ
+le zero s = 0
+le (suc n) [] = 0
+le (suc n) (b ∷ s) = b + 256 * le n s
+
+-- n numbers of w bytes each, one after the other
+abbrev pub les : ℕ → ℕ → List ℕ → List ℕ
+les w n s = listTo n (λ i. le w (drop (i * w) s))
+
+-- the bytes from one place up to another
+abbrev pub part : ℕ → ℕ → List ℕ → List ℕ
+part from to s = take (to - from) (drop from s)
+
+-- each byte is zero
+abbrev pub allZero : List ℕ → Bool
+allZero s = allTo (length s) (λ i. eqb (getD s i 0) 0)

@@ -1,0 +1,7 @@
+pub mod Each
+pub mod Bytes
+pub mod Outline
+pub mod Verdict
+pub mod Setup
+pub mod Stage
+pub mod Post

@@ -1,0 +1,61 @@
+// Numbers and zero runs in bytes of any length. A byte that is missing counts as 0.
+ghost use mathlib.Core.Path.{_≡_};
+ghost use Prim.Native.Nat.{_<_};
+ghost use lib.ListN.{drop, getD};
+ghost use Rattle.layout.specs.Bytes.{le, allZero};
+
+fn wide(x: u8) -> u16
+    ensures { λ r. ⌜ (r ≡ x) × (r < 256) ⌝ }
+{
+    x as u16
+}
+
+pub fn byte_at(s: &[u8], at: usize) -> u8
+    ensures { λ r. ⌜ r ≡ getD (now (s .entry)) at 0 ⌝ }
+{
+    if at < s.len() { s[at] } else { 0 }
+}
+
+pub fn le16(s: &[u8], at: usize) -> u16
+    ensures { λ r. ⌜ r ≡ le 2 (drop at (now (s .entry))) ⌝ }
+{
+    if at >= s.len() {
+        return 0;
+    }
+    wide(byte_at(s, at)) + wide(byte_at(s, at + 1)) * 256
+}
+
+pub fn le32(s: &[u8], at: usize) -> u32
+    ensures { λ r. ⌜ r ≡ le 4 (drop at (now (s .entry))) ⌝ }
+{
+    if at >= s.len() {
+        return 0;
+    }
+    let low = le16(s, at);
+    let high = le16(s, at + 2);
+    (low as u32) + (high as u32) * 65536
+}
+
+pub fn le64(s: &[u8], at: usize) -> u64
+    ensures { λ r. ⌜ r ≡ le 8 (drop at (now (s .entry))) ⌝ }
+{
+    if at >= s.len() {
+        return 0;
+    }
+    let low = le32(s, at);
+    let high = le32(s, at + 4);
+    (low as u64) + (high as u64) * 4294967296
+}
+
+pub fn all_zero(s: &[u8]) -> bool
+    ensures { λ r. ⌜ r ≡ allZero (now (s .entry)) ⌝ }
+{
+    let mut i = 0;
+    while i < s.len() {
+        if s[i] != 0 {
+            return false;
+        }
+        i += 1;
+    }
+    true
+}

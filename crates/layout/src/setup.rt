@@ -1,0 +1,250 @@
+// Kind 1: the substances and the materials.
+ghost use mathlib.Core.Path.{_≡_};
+ghost use Prim.Native.Nat.{_*_, _≤_};
+ghost use lib.ListN.{length};
+ghost use Rattle.amounts.specs.Content.{countedOf};
+ghost use Rattle.amounts.specs.Decline.{checked, valueOr};
+ghost use Rattle.layout.specs.Verdict.{verdictOf};
+ghost use Rattle.layout.specs.Setup.{within, numbersIn, classesIn, contentsIn, countedAll, rising, allClasses, rowSum, rowsFit, bodyChecks, setupChecks, setupOf};
+use crate::bytes;
+use crate::outline;
+use crate::outline::Outline;
+use crate::verdict::Verdict;
+use amounts::class;
+use amounts::content;
+use amounts::content::Counted;
+use amounts::decline;
+
+// A pair's side and rates in ppm, of a stage and a substance. The side is as wide as the rates, so that a row has no unused bytes and is copied as one.
+pub struct Rates {
+    pub side: u32,
+    pub gas_removal: u32,
+    pub gas_destruction: u32,
+    pub water_removal: u32,
+    pub water_destruction: u32,
+}
+
+// What the set-up blocks say. Contents are kept as counted: for the material m and the substance s at m * 8 + s. Rates stand
+// at stage * 8 + substance.
+pub struct Setup {
+    pub outline: Outline,
+    pub numbers: [u16; 8],
+    pub classes: [u8; 8],
+    pub counted: [u32; 96],
+    pub water_to: [u8; 8],
+    pub residue_to: [u8; 8],
+    pub rates: [Rates; 64],
+}
+
+pub const NO_RATES: Rates = Rates {
+    side: 0,
+    gas_removal: 0,
+    gas_destruction: 0,
+    water_removal: 0,
+    water_destruction: 0,
+};
+
+pub fn is_within(low: u8, high: u8, n: u8) -> bool
+    ensures { λ r. ⌜ r ≡ within low high n ⌝ }
+{
+    if n < low {
+        return false;
+    }
+    n <= high
+}
+
+fn numbers_in(body: &[u8]) -> [u16; 8]
+    ensures { λ r. ⌜ r ≡ numbersIn (now (body .entry)) ⌝ }
+{
+    let mut out = [0u16; 8];
+    let mut i: usize = 0;
+    while i < 8 {
+        out[i] = bytes::le16(body, 2 + i * 2);
+        i += 1;
+    }
+    out
+}
+
+fn classes_in(body: &[u8]) -> [u8; 8]
+    ensures { λ r. ⌜ r ≡ classesIn (now (body .entry)) ⌝ }
+{
+    let mut out = [0u8; 8];
+    let mut i: usize = 0;
+    while i < 8 {
+        out[i] = bytes::byte_at(body, 18 + i * 1);
+        i += 1;
+    }
+    out
+}
+
+fn contents_in(body: &[u8]) -> [u32; 96]
+    ensures { λ r. ⌜ r ≡ contentsIn (now (body .entry)) ⌝ }
+{
+    let mut out = [0u32; 96];
+    let mut i: usize = 0;
+    while i < 96 {
+        out[i] = bytes::le32(body, 26 + i * 4);
+        i += 1;
+    }
+    out
+}
+
+// The first n numbers of 16 bits from a place on are each above the one before, and the first is above 0.
+fn is_rising(s: &[u8], n: usize) -> bool
+    requires { ⌜ n * 2 ≤ length (now s) ⌝ }
+    ensures { λ r. ⌜ r ≡ rising n (now (s .entry)) ⌝ }
+{
+    let mut last: u16 = 0;
+    let mut i: usize = 0;
+    while i < n {
+        let x = bytes::le16(s, i * 2);
+        if x <= last {
+            return false;
+        }
+        last = x;
+        i += 1;
+    }
+    true
+}
+
+fn all_classes(s: &[u8]) -> bool
+    ensures { λ r. ⌜ r ≡ allClasses (now (s .entry)) ⌝ }
+{
+    let mut i: usize = 0;
+    while i < s.len() {
+        if !class::is_class(s[i]) {
+            return false;
+        }
+        i += 1;
+    }
+    true
+}
+
+fn row_sum(s: &[u8]) -> u64
+    requires { ⌜ 32 ≤ length (now s) ⌝ }
+    ensures { λ r. ⌜ r ≡ rowSum (now (s .entry)) ⌝ }
+{
+    let mut sum: u64 = 0;
+    let mut i: usize = 0;
+    while i < 8 {
+        sum += bytes::le32(s, i * 4) as u64;
+        i += 1;
+    }
+    sum
+}
+
+// The contents of n materials sum to at most 1,000,000 each, and are zero from the kth substance on.
+fn rows_fit(s: &[u8], n: usize, k: usize) -> bool
+    requires { ⌜ (n * 32 ≤ length (now s)) × (k ≤ 8) ⌝ }
+    ensures { λ r. ⌜ r ≡ rowsFit k n (now (s .entry)) ⌝ }
+{
+    let from = k * 4;
+    let mut i: usize = 0;
+    while i < n {
+        let at = i * 32;
+        let row = &s[at..];
+        if row_sum(row) > 1_000_000 {
+            return false;
+        }
+        if !bytes::all_zero(&row[from..32]) {
+            return false;
+        }
+        i += 1;
+    }
+    true
+}
+
+fn counted_or_none(class: u8, ppm: u32) -> u32
+    ensures { λ r. ⌜ r ≡ valueOr 0 (countedOf class ppm) ⌝ }
+{
+    match content::counted_content(class, ppm) {
+        Counted::Content(counted) => counted,
+        Counted::Declined(_) => 0,
+    }
+}
+
+fn counted_all(classes: &[u8; 8], contents: &[u32; 96]) -> [u32; 96]
+    ensures { λ r. ⌜ r ≡ countedAll (now (classes .entry)) (now (contents .entry)) ⌝ }
+{
+    let mut out = [0u32; 96];
+    let mut i: usize = 0;
+    while i < 96 {
+        out[i] = counted_or_none(classes[i % 8], contents[i]);
+        i += 1;
+    }
+    out
+}
+
+fn checked_body(count: u8, body: &[u8]) -> Verdict
+    requires { ⌜ length (now body) ≡ 500 ⌝ }
+    ensures { λ r. ⌜ r ≡ verdictOf (checked (bodyChecks count (now (body .entry))) (tt {0})) ⌝ }
+{
+    let materials = body[0];
+    if !is_within(1, 8, count) {
+        return Verdict::Declined(decline::LAYOUT);
+    }
+    if !is_within(1, 12, materials) {
+        return Verdict::Declined(decline::LAYOUT);
+    }
+    if !is_within(1, 8, body[1]) {
+        return Verdict::Declined(decline::LAYOUT);
+    }
+    let n = count as usize;
+    if !is_rising(&body[2..], n) {
+        return Verdict::Declined(decline::LAYOUT);
+    }
+    if !bytes::all_zero(&body[2 + n * 2..18]) {
+        return Verdict::Declined(decline::LAYOUT);
+    }
+    if !all_classes(&body[18..18 + n]) {
+        return Verdict::Declined(decline::LAYOUT);
+    }
+    if !bytes::all_zero(&body[18 + n..26]) {
+        return Verdict::Declined(decline::LAYOUT);
+    }
+    let rows = materials as usize;
+    if !rows_fit(&body[26..], rows, n) {
+        return Verdict::Declined(decline::LAYOUT);
+    }
+    if !bytes::all_zero(&body[26 + rows * 32..]) {
+        return Verdict::Declined(decline::LAYOUT);
+    }
+    Verdict::Accepted
+}
+
+// Whether a kind 1 block's body is in its turn and within its limits, by the outline and the bytes alone.
+pub fn check_setup(o: Outline, count: u8, body: &[u8]) -> Verdict
+    ensures { λ r. ⌜ r ≡ verdictOf (checked (setupChecks o count (now (body .entry))) (tt {0})) ⌝ }
+{
+    if !outline::may_set_up(o) {
+        return Verdict::Declined(decline::TURN);
+    }
+    if body.len() != 500 {
+        return Verdict::Declined(decline::LAYOUT);
+    }
+    checked_body(count, body)
+}
+
+// What a kind 1 block's body says, whatever its bytes are.
+pub fn parse(count: u8, body: &[u8]) -> Setup
+    ensures { λ r. ⌜ r ≡ setupOf count (now (body .entry)) ⌝ }
+{
+    let numbers = numbers_in(body);
+    let classes = classes_in(body);
+    let contents = contents_in(body);
+    let counted = counted_all(&classes, &contents);
+    Setup {
+        outline: Outline {
+            substances: count,
+            materials: bytes::byte_at(body, 0),
+            stages: bytes::byte_at(body, 1),
+            described: 0,
+        },
+        numbers,
+        classes,
+        counted,
+        water_to: [0; 8],
+        residue_to: [0; 8],
+        rates: [NO_RATES; 64],
+    }
+}
