@@ -27,17 +27,26 @@ unfolding postOn
 takenTo b posts zero = taken b
 takenTo b posts (suc n) = onTaken (takenTo b posts n) (λ c. postOn c (posts n))
 
-abbrev pub withBlock : Book → Book
-withBlock b =
+-- a book with so many blocks counted
+abbrev pub numbered : ℕ → Book → Book
+numbered blocks b =
     record {
       setup = b .setup;
       store = b .store;
       sums = b .sums;
       handled = b .handled;
       posts = b .posts;
-      blocks = b .blocks + 1;
+      blocks = blocks;
       closed = b .closed;
     }
+
+-- a book with one block more
+abbrev pub withBlock : Book → Book
+withBlock b = numbered (b .blocks + 1) b
+
+-- what a run of n posts makes of a book, and the blocks that it then counts
+abbrev pub runOn : Book → (ℕ → List ℕ) → ℕ → ℕ → Answer Book
+runOn b posts n blocks = onTaken (takenTo b posts n) (λ c. taken (numbered blocks c))
 
 -- 4, 5 and 6 of the block's own bytes: "Count: posts, 1–10, from byte 8", and zero behind the last post
 abbrev pub ownChecks : Outline → Bool → ℕ → List ℕ → List Check

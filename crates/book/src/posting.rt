@@ -207,5 +207,5 @@ pub fn take_post(b: Book, s: &[u8]) -> Answered
     ensures { λ r. ⌜ r ≡ outcome b (postOn b (now (s .entry))) ⌝ }
     ensures { λ r. ⌜ Sound (r .book) ⌝ }
 {
-    posts::take_run(b, s, s.len(), 1)
+    posts::take_run(b, s, s.len(), 1, b.blocks)
 }

@@ -5,7 +5,7 @@ ghost use lib.ListN.{length};
 ghost use Rattle.amounts.specs.Decline.{checked};
 ghost use Rattle.layout.specs.Verdict.{verdictOf};
 ghost use Rattle.book.specs.Answer.{outcome};
-ghost use Rattle.book.specs.Posts.{partOf, takenTo, ownChecks, postsOn};
+ghost use Rattle.book.specs.Posts.{partOf, runOn, ownChecks, postsOn};
 ghost use Rattle.book.specs.Site.{Sound};
 use crate::answer;
 use crate::answer::Answered;
@@ -20,12 +20,11 @@ use layout::outline::Outline;
 use layout::setup;
 use layout::verdict::Verdict;
 
-// The first n posts of the bytes, each of the given size and tried on the book that the earlier ones left. A decline has the book given in.
-pub(crate) fn take_run(b: Book, s: &[u8], size: usize, n: usize) -> Answered
+// The book after the first n posts of the bytes, each of the given size and tried on the book that the earlier ones left, with the given count of blocks. A decline has the book given in.
+pub(crate) fn take_run(b: Book, s: &[u8], size: usize, n: usize, blocks: u32) -> Answered
     requires { ⌜ Sound b ⌝ }
     requires { ⌜ n * size ≤ length (now s) ⌝ }
-    ensures { λ r. ⌜ r ≡ outcome b (takenTo b (partOf size (now (s .entry))) n) ⌝ }
-    ensures { λ r. ⌜ Sound (r .book) ⌝ }
+    ensures { λ r. ⌜ r ≡ outcome b (runOn b (partOf size (now (s .entry))) n blocks) ⌝ }
 {
     let setup = b.setup;
     let o = setup.outline;
@@ -54,6 +53,7 @@ pub(crate) fn take_run(b: Book, s: &[u8], size: usize, n: usize) -> Answered
             }
         }
     }
+    c.blocks = blocks;
     Answered {
         verdict: Verdict::Accepted,
         book: c,
@@ -93,12 +93,5 @@ pub fn take_posts(b: Book, count: u8, body: &[u8]) -> Answered
     if let Verdict::Declined(d) = check_posts(o, b.closed, count, body) {
         return answer::declined(b, d);
     }
-    let mut a = take_run(b, body, 48, count as usize);
-    let v = a.verdict;
-    if let Verdict::Declined(_) = v {
-        return a;
-    }
-    let blocks = b.blocks + 1;
-    a.book.blocks = blocks;
-    a
+    take_run(b, body, 48, count as usize, b.blocks + 1)
 }

@@ -9,23 +9,20 @@ use native.Mathlib.Omega.{arith}
 use borrow.Author.Tests.{eqb-true, not-true}
 use lib.ListN.{length, getD}
 use Rattle.amounts.specs.Decline.{Answer, taken, declined, checked, onTaken}
-use Rattle.amounts.proofs.decline.Laws.{was-taken}
+use Rattle.amounts.proofs.decline.Laws.{was-taken, on-taken, only-taken}
 use Rattle.book.specs.Answer.{outcome}
 use Rattle.layout.specs.Each.{sumTo}
 use Rattle.book.specs.Entered.{enters, handles}
 use Rattle.layout.specs.Outline.{mayPost}
 use Rattle.layout.specs.Post.{postAt}
 use Rattle.book.specs.Posting.{postOn}
-use Rattle.book.specs.Posts.{postIn, takenTo, ownChecks, postsOn, withBlock}
+use Rattle.book.specs.Posts.{postIn, takenTo, numbered, withBlock, runOn, ownChecks, postsOn}
 use Rattle.book.specs.Site.{Sound, content}
 use Rattle.book.specs.declared.answer.Answered.{Answered}
-use Rattle.layout.specs.declared.verdict.Verdict.{Verdict}
-use Rattle.layout.specs.declared.verdict.Verdict.the-variants.{Accepted}
 use Rattle.layout.specs.declared.outline.Outline.{Outline}
 use Rattle.book.specs.declared.site.Book.{Book}
 use Rattle.layout.specs.declared.setup.Setup.{Setup}
 use Rattle.layout.proofs.Each.{sum-again, sum-none}
-use Rattle.book.proofs.answer.Laws.{was-accepted}
 use Rattle.book.proofs.posting.Checks.{passed, post-was-taken}
 use Rattle.book.proofs.posting.Laws.{Step, applied-step}
 use Rattle.layout.proofs.setup.Laws.{within-true}
@@ -117,6 +114,21 @@ many-taken b c posts (suc n) h e =
     let m = many-taken b (z .0) posts n h (z .1) in
     subst (λ (k : ℕ). Many b posts k c) (add-one n) (one-more b posts h n (z .0) c m (post-step (z .0) c (posts n) (m .sound) (z .2)))
 
+-- ---- a run, and the blocks that it counts
+
+module _ (b : Book) (posts : ℕ → List ℕ) (n blocks : ℕ) where
+  pub run-declined : (m : ℕ) → takenTo b posts n ≡ declined m → runOn b posts n blocks ≡ declined m
+  run-declined m e = rw e
+
+  pub run-taken : (c : Book) → takenTo b posts n ≡ taken c → runOn b posts n blocks ≡ taken (numbered blocks c)
+  run-taken c e = rw e
+
+-- posts leave the count of blocks as it is
+pub run-same : (b : Book) (posts : ℕ → List ℕ) (n : ℕ) → Sound b → runOn b posts n (b .blocks) ≡ takenTo b posts n
+run-same b posts n h =
+    on-taken (takenTo b posts n) _ taken (λ c e. ap (λ (k : ℕ). taken (numbered k c)) (sym (many-taken b c posts n h e .same-blocks)))
+    ∙ only-taken (takenTo b posts n)
+
 -- ---- a block of posts
 
 -- what the block's own bytes tell where they pass
@@ -145,19 +157,17 @@ module _ (b : Book) (count : ℕ) (body : List ℕ) where
   abbrev pub owned : Answer ℕ
   owned = checked (ownChecks (b .setup .outline) (b .closed) count body) count
 
-  -- through the checks, and through the posts
+  -- through the checks
   pub own-declined : (n : ℕ) → owned ≡ declined n → postsOn b count body ≡ declined n
   unfolding postsOn
   own-declined n e = rw e
 
-  module _ (passes : owned ≡ taken count) where
-    pub post-declined : (n : ℕ) → takenTo b (postIn body) count ≡ declined n → postsOn b count body ≡ declined n
-    unfolding postsOn
-    post-declined n e = rw (passes, e)
-
-    pub all-taken : (c : Book) → takenTo b (postIn body) count ≡ taken c → postsOn b count body ≡ taken (withBlock c)
-    unfolding postsOn
-    all-taken c e = rw (passes, e)
+  -- and through the posts, which are a run
+  pub block-run : Sound b → owned ≡ taken count → runOn b (postIn body) count (b .blocks + 1) ≡ postsOn b count body
+  unfolding postsOn
+  block-run h passes =
+      rw passes
+      (on-taken (takenTo b (postIn body) count) _ _ (λ c e. ap (λ (k : ℕ). taken (numbered (k + 1) c)) (sym (many-taken b c (postIn body) count h e .same-blocks))))
 
 taken-same : (x y : Book) → _≡_ {A = Answer Book} (taken x) (taken y) → x ≡ y
 taken-same x y e = cc
@@ -206,36 +216,9 @@ posts-sound b c count body h e =
     (sound-block (z .0) (m .sound)
     (subst (λ (u : Setup). z .0 .blocks + 1 ≤ min (u .outline .substances) 1 + u .outline .described + z .0 .posts) (sym (m .same-setup)) few))
 
--- the block counted on from the book given in, since posts leave the count of blocks as it is
-abbrev numbered : Book → ℕ → Book
-numbered b k =
-    record {
-      setup = b .setup;
-      store = b .store;
-      sums = b .sums;
-      handled = b .handled;
-      posts = b .posts;
-      blocks = k;
-      closed = b .closed;
-    }
-
-pub block-taken : (b : Book) (count : ℕ) (body : List ℕ) (r : Answered) → Sound b → owned b count body ≡ taken count
-    → r ≡ outcome b (takenTo b (postIn body) count) → r .verdict ≡ Accepted
-    → (record { verdict = r .verdict; book = numbered (r .book) (b .blocks + 1) } ≡ outcome b (postsOn b count body)) × Sound (numbered (r .book) (b .blocks + 1))
-block-taken b count body r h passes e v =
-    let so = was-accepted b (takenTo b (postIn body) count) r e v in
-    let is = all-taken b count body passes (r .book) so in
-    let same : numbered (r .book) (b .blocks + 1) ≡ withBlock (r .book) =
-    ap (λ (k : ℕ). numbered (r .book) (k + 1)) (sym (many-taken b (r .book) (postIn body) count h so .same-blocks)) in (
-      ap (λ (w : Verdict). record { verdict = w; book = numbered (r .book) (b .blocks + 1) }) v
-          ∙ ap (λ (x : Book). record { verdict = Accepted; book = x }) same
-          ∙ ap (outcome b) (sym is),
-      subst Sound (sym same) (posts-sound b (withBlock (r .book)) count body h is),
-    )
-
 -- ---- every call
 
 -- a call that keeps the book sound where it is taken keeps it sound
-pub sound-after : (b : Book) (a : Answer Book) → Sound b → ((c : Book) → a ≡ taken c → Sound c) → Sound (outcome b a .book)
-sound-after b (taken c) h kept = kept c refl
-sound-after b (declined n) h kept = h
+pub sound-after : (b : Book) (a : Answer Book) (r : Answered) → Sound b → ((c : Book) → a ≡ taken c → Sound c) → r ≡ outcome b a → Sound (r .book)
+sound-after b (taken c) r h kept e = rw e (kept c refl)
+sound-after b (declined n) r h kept e = rw e h

@@ -10,14 +10,14 @@ use lib.Seq.{take-length}
 use Rattle.amounts.specs.Decline.{Answer, taken, declined}
 use Rattle.book.specs.Ledger.{held, cell, total, settled}
 use Rattle.book.specs.Posting.{withPost, applied, storeAfter, sumsAfter, handledAfter, admitted, postOn, Applies, Entry}
-use Rattle.book.specs.Posts.{partOf, takenTo}
+use Rattle.book.specs.Posts.{partOf, takenTo, runOn}
 use Rattle.book.specs.Site.{Sound}
 use Rattle.book.specs.declared.posting.Reading.{Reading}
 use Rattle.book.specs.declared.site.Book.{Book}
 use Rattle.layout.specs.declared.setup.Setup.{Setup}
 use Rattle.book.proofs.posting.Checks.{not-admitted, was-admitted, admitted-applies}
 use Rattle.book.proofs.posting.Laws.{applied-lists, applied-close, entry-of, total-few, handled-few}
-use Rattle.book.proofs.posts.Laws.{none-yet, taken-next, many-taken}
+use Rattle.book.proofs.posts.Laws.{none-yet, taken-next, many-taken, run-same}
 
 -- ---- the parts of bytes
 
@@ -41,7 +41,7 @@ module _ (b : Book) (posts : ℕ → List ℕ) (h : Sound b) (i : ℕ) (c : Book
   same-setup : c .setup ≡ b .setup
   same-setup = many-taken b c posts i h so-far .same-setup
 
-  pub still-sound : Sound c
+  still-sound : Sound c
   still-sound = many-taken b c posts i h so-far .sound
 
   as-tried : admitted (c .setup .outline) (c .setup .numbers) (c .closed) (c .posts) (c .store) (c .sums) (posts i) ≡ tried
@@ -118,8 +118,8 @@ module _ (b : Book) (posts : ℕ → List ℕ) (h : Sound b) (i : ℕ) (c : Book
 
 -- ---- a run of one
 
-pub run-of-one : (b : Book) (s : List ℕ) → takenTo b (partOf (length s) s) 1 ≡ postOn b s
-run-of-one b s =
+pub run-of-one : (b : Book) (s : List ℕ) → Sound b → runOn b (partOf (length s) s) 1 (b .blocks) ≡ postOn b s
+run-of-one b s h =
     let posts = partOf (length s) s in
     let whole : posts 0 ≡ s = ap (λ (n : ℕ). take (length s) (drop n s)) (zero-mul (length s)) ∙ take-length s in
-    taken-next b posts 0 b (none-yet b posts) ∙ ap (postOn b) whole
+    run-same b posts 1 h ∙ taken-next b posts 0 b (none-yet b posts) ∙ ap (postOn b) whole

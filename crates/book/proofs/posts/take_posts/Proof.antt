@@ -4,11 +4,11 @@ use native.Mathlib.Omega.{arith}
 use borrow.Author.Needs.{needs}
 use Rattle.amounts.specs.Decline.{taken}
 use Rattle.book.specs.Answer.{outcome}
-use Rattle.book.specs.Posts.{postIn, takenTo, ownChecks, postsOn}
+use Rattle.book.specs.Posts.{ownChecks, postsOn}
 use Rattle.book.specs.Site.{Sound}
 use Rattle.layout.proofs.verdict.Laws.{accepts, declines}
-use Rattle.book.proofs.answer.Laws.{stays, was-declined}
-use Rattle.book.proofs.posts.Laws.{owned, own, own-declined, post-declined, block-taken}
+use Rattle.book.proofs.answer.Laws.{stays}
+use Rattle.book.proofs.posts.Laws.{owned, own, own-declined, block-run, posts-sound, sound-after}
 use Rattle.book.proofs.posts.take_posts.Statement.{statement}
 use Rattle.book.proofs.posts.take_posts.Tie as tie
 
@@ -40,42 +40,24 @@ returns c =
 enum-told : tie.Need-enum-told
 enum-told c = search needs
 
+add-take-run : tie.Need-add-take-run
+add-take-run c = search needs
+
 take-run-requires : tie.Need-take-run-requires
 take-run-requires c κs =
-    let s = c .before .before .before .before .before .before in
+    let k = c .before in
+    let s = k .before .before .before .before .before .before in
     let a = s .args in
-    let k = own (a .b .setup .outline) (a .b .closed) (a .count) (a .count) (now (a .body)) (passes c) .0 in
-    (s .pre, omega (arith, k .long, k .few))
-
-enum-told-2 : tie.Need-enum-told-2
-enum-told-2 c = search needs
+    let z = own (a .b .setup .outline) (a .b .closed) (a .count) (a .count) (now (a .body)) (passes k) .0 in
+    (s .pre, omega (arith, z .long, z .few))
 
 returns-2 : tie.Need-returns-2
 returns-2 c =
-    let k = c .before .before .before in
+    let k = c .before .before in
     let s = k .before .before .before .before .before .before in
     let a = s .args in
-    let t = c .before .before .take-run in
-    let d = c .enum-told2 .given .0 .0 in
-    let is = was-declined (a .b) (takenTo (a .b) (postIn (now (a .body))) (a .count)) (t .result) d (t .ensures .0) (c .enum-told2 .given .1) in
-    stays Sound (a .b) (postsOn (a .b) (a .count) (now (a .body))) (d .number) (t .result)
-    (post-declined (a .b) (a .count) (now (a .body)) (passes k) (d .number) is)
-    (t .ensures .0 ∙ ap (outcome (a .b)) is)
-    (s .pre)
-
-enum-told-3 : tie.Need-enum-told-3
-enum-told-3 c = search needs
-
-add-blocks : tie.Need-add-blocks
-add-blocks c = search needs
-
-returns-3 : tie.Need-returns-3
-returns-3 c =
-    let k = c .before .before .before .before .before in
-    let s = k .before .before .before .before .before .before in
-    let a = s .args in
-    let t = c .before .before .before .before .take-run in
-    block-taken (a .b) (a .count) (now (a .body)) (t .result) (s .pre) (passes k) (t .ensures .0) (c .before .before .enum-told3 .given .1)
+    let e = c .take-run .ensures ∙ ap (outcome (a .b)) (block-run (a .b) (a .count) (now (a .body)) (s .pre) (passes k)) in
+    (e, sound-after (a .b) (postsOn (a .b) (a .count) (now (a .body))) (c .take-run .result) (s .pre) (λ d. posts-sound (a .b) d (a .count) (now (a .body)) (s .pre)) e)
 
 pub take-posts-spec : {M : Type 1} → statement M
 take-posts-spec =
@@ -86,9 +68,6 @@ take-posts-spec =
     declined-requires
     returns
     enum-told
+    add-take-run
     take-run-requires
-    enum-told-2
-    returns-2
-    enum-told-3
-    add-blocks
-    returns-3)
+    returns-2)

@@ -9,19 +9,17 @@ use Rattle.amounts.specs.Decline.{taken}
 use Rattle.book.specs.Answer.{outcome}
 use Rattle.book.specs.Posting.{readAnswer, admitted}
 use Rattle.book.specs.Posts.{partOf, takenTo}
-use Rattle.book.specs.Site.{Sound}
 use Rattle.book.specs.declared.posting.Reading.{Reading}
-use Rattle.book.proofs.answer.Laws.{stays}
-use Rattle.book.proofs.posts.Laws.{none-yet, stays-declined}
-use Rattle.book.proofs.posts.Turn.{part-at, part-fits, tried, still-sound, turn-declined, few-posts, may-settle, turn-closed, may-store, may-sum, may-handle, turn-entered}
+use Rattle.book.proofs.posts.Laws.{none-yet, stays-declined, run-declined, run-taken}
+use Rattle.book.proofs.posts.Turn.{part-at, part-fits, tried, turn-declined, few-posts, may-settle, turn-closed, may-store, may-sum, may-handle, turn-entered}
 use Rattle.book.proofs.posts.take_run.Statement.{statement}
 use Rattle.book.proofs.posts.take_run.Tie as tie
 
 abbrev Inv-loop : tie.InvT-loop
-Inv-loop b s size n setup o numbers counted c₀ i₀ c i = (i ≤ n) × (takenTo b (partOf size s) i ≡ taken c)
+Inv-loop b s size n blocks setup o numbers counted c₀ i₀ c i = (i ≤ n) × (takenTo b (partOf size s) i ≡ taken c)
 
 abbrev μ-loop : tie.MeasureT-loop
-μ-loop b s size n setup o numbers counted c₀ i₀ c i = n - i
+μ-loop b s size n blocks setup o numbers counted c₀ i₀ c i = n - i
 
 -- the part that a turn reads lies within the bytes
 fits : (c : tie.In-loop Inv-loop μ-loop) → let a = c .before .before .before .before .before .before .before .args in c .before .loop .i * a .size + a .size ≤ length (now (a .s))
@@ -90,12 +88,10 @@ returns c =
     let a = s .args in
     let posts = posts-of k in
     let d = c .before .before .d .given .0 .0 in
-    stays Sound (a .b) (takenTo (a .b) posts (a .n)) (d .number) (c .declined .result)
-    (stays-declined (a .b) posts _ (a .n) (d .number)
+    let stands = stays-declined (a .b) posts _ (a .n) (d .number)
     (turn-declined (a .b) posts (s .pre .0) (turn k .loop .i) (turn k .loop .c) (turn k .loop .inv .1) (d .number) (sym (was-tried k) ∙ ap readAnswer (c .before .before .d .given .1)))
-    (omega (arith, k .before .before .before .before .before .before .loop-test)))
-    (c .declined .ensures)
-    (s .pre .0)
+    (omega (arith, k .before .before .before .before .before .before .loop-test)) in
+    c .declined .ensures ∙ ap (outcome (a .b)) (sym (run-declined (a .b) posts (a .n) (a .blocks) (d .number) stands))
 
 enum-known-r : tie.Need-enum-known-r Inv-loop μ-loop
 enum-known-r c = search needs
@@ -155,7 +151,7 @@ returns-2 c =
     let k = c .before .loop in
     let posts = partOf (a .size) (now (a .s)) in
     let e : a .n ≡ k .i = omega arith in
-    (ap (outcome (a .b)) (sym (ap (takenTo (a .b) posts) e ∙ k .inv .1)), still-sound (a .b) posts (s .pre .0) (k .i) (k .c) (k .inv .1))
+    ap (outcome (a .b)) (sym (run-taken (a .b) posts (a .n) (a .blocks) (k .c) (ap (takenTo (a .b) posts) e ∙ k .inv .1)))
 
 pub take-run-spec : {M : Type 1} → statement M
 take-run-spec =
