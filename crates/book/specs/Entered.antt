@@ -3,9 +3,9 @@ use Prim.Native.Nat.{ℕ}
 use mathlib.Core.Bool.{cond}
 use mathlib.Core.List.{List}
 use lib.Dec.{eqb}
-use Rattle.book.specs.Ledger.{brings}
 use Rattle.layout.specs.Setup.{within}
 use Rattle.layout.specs.declared.post.Post.{Post}
+use Rattle.book.specs.Ledger.{brings}
 
 -- "the quantity of each formed post of the substance"
 abbrev pub forms : ℕ → Post → ℕ

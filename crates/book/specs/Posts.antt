@@ -8,9 +8,9 @@ use Rattle.amounts.specs.Decline as number
 use Rattle.amounts.specs.Decline.{Answer, taken, Check, check, checked, onTaken}
 use Rattle.layout.specs.Bytes.{allZero}
 use Rattle.layout.specs.Outline.{mayPost}
-use Rattle.book.specs.Posting.{postOn}
 use Rattle.layout.specs.Setup.{within}
 use Rattle.layout.specs.declared.outline.Outline.{Outline}
+use Rattle.book.specs.Posting.{postOn}
 use Rattle.book.specs.declared.site.Book.{Book}
 
 -- the ith of the parts of a size that bytes are made of, from 0

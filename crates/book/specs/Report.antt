@@ -10,8 +10,10 @@ use Rattle.amounts.specs.Threshold.{dueOf}
 use Rattle.amounts.specs.Treatment.{partsOf}
 use Rattle.amounts.specs.declared.treatment.Parts.{Parts}
 use Rattle.layout.specs.Each.{sumTo}
-use Rattle.book.specs.Ledger.{held, shipped, offSite, landfill, soil, consumed, gas, water, vapour, cell}
 use Rattle.layout.specs.Setup.{noRates}
+use Rattle.layout.specs.declared.setup.Rates.{Rates}
+use Rattle.layout.specs.declared.setup.Setup.{Setup}
+use Rattle.book.specs.Ledger.{held, shipped, offSite, landfill, soil, consumed, gas, water, vapour, cell}
 use Rattle.book.specs.Site.{stored}
 use Rattle.book.specs.declared.report.Filing.{Filing}
 use Rattle.book.specs.declared.report.Filing.the-variants.{Figures, NotDue}
@@ -21,8 +23,6 @@ use Rattle.book.specs.declared.report.Report.{Report}
 use Rattle.book.specs.declared.report.Reported as reported
 use Rattle.book.specs.declared.report.Reported.the-variants.{Known, Declined}
 use Rattle.book.specs.declared.site.Book.{Book}
-use Rattle.layout.specs.declared.setup.Rates.{Rates}
-use Rattle.layout.specs.declared.setup.Setup.{Setup}
 
 -- an amount where a destination is the one asked for
 abbrev pub atOne : ℕ → ℕ → ℕ

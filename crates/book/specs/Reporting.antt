@@ -3,12 +3,12 @@ use Prim.Native.Nat.{ℕ, _+_}
 use mathlib.Core.List.{List}
 use Rattle.amounts.specs.Treatment.{partsOf}
 use Rattle.amounts.specs.declared.treatment.Parts.{Parts}
+use Rattle.layout.specs.declared.setup.Rates.{Rates}
 use Rattle.book.specs.Ledger.{held, shipped, offSite, landfill, soil, consumed, gas, water, vapour, cell}
 use Rattle.book.specs.Report.{atOne, atTwo}
 use Rattle.book.specs.declared.report.Cells.{Cells}
 use Rattle.book.specs.declared.report.Headings.{Headings}
 use Rattle.book.specs.declared.report.Line.{Line}
-use Rattle.layout.specs.declared.setup.Rates.{Rates}
 
 abbrev pub cellsOf : List ℕ → ℕ → ℕ → Cells
 cellsOf sums stage s =

@@ -3,8 +3,8 @@ use Prim.Native.Nat.{ℕ, _+_}
 use mathlib.Core.List.{List}
 use Rattle.amounts.specs.Decline.{Answer, checked}
 use Rattle.layout.specs.Setup.{setupChecks, setupOf}
-use Rattle.book.specs.declared.site.Book.{Book}
 use Rattle.layout.specs.declared.setup.Setup.{Setup}
+use Rattle.book.specs.declared.site.Book.{Book}
 
 -- a book after one more set-up block
 abbrev pub withSetup : Book → Setup → Book

@@ -4,14 +4,14 @@ use mathlib.Core.Path.{_≡_}
 use mathlib.Core.Bool.{true, false}
 use mathlib.Core.List.{List}
 use lib.ListN.{length, getD, replicate}
-use Rattle.book.specs.Ledger.{brings, total}
 use Rattle.layout.specs.Setup.{noRates}
 use Rattle.layout.specs.Outline.{mayPost}
 use Rattle.layout.specs.Each.{sumTo}
 use Rattle.layout.specs.declared.outline.Outline.{Outline}
-use Rattle.book.specs.declared.site.Book.{Book}
 use Rattle.layout.specs.declared.setup.Rates.{Rates}
 use Rattle.layout.specs.declared.setup.Setup.{Setup}
+use Rattle.book.specs.Ledger.{brings, total}
+use Rattle.book.specs.declared.site.Book.{Book}
 
 abbrev pub freshOutline : Outline
 freshOutline = record { substances = 0; materials = 0; stages = 0; described = 0 }

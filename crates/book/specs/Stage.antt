@@ -5,9 +5,9 @@ use lib.ListN.{getD, drop, set}
 use Rattle.amounts.specs.Decline.{Answer, checked}
 use Rattle.layout.specs.Each.{putTo}
 use Rattle.layout.specs.Stage.{rateRow, stageChecks}
+use Rattle.layout.specs.declared.setup.Setup.{Setup}
 use Rattle.book.specs.Setup.{withSetup}
 use Rattle.book.specs.declared.site.Book.{Book}
-use Rattle.layout.specs.declared.setup.Setup.{Setup}
 
 -- the set-up with its next stage described
 abbrev pub withStage : Setup → ℕ → List ℕ → Setup

@@ -1,7 +1,7 @@
 // What a call on a book answers: accepted with the book after it, or declined with the book given in.
 ghost use mathlib.Core.Path.{_≡_};
-ghost use Rattle.book.specs.Answer.{outcome};
 ghost use Rattle.amounts.specs.Decline as answers;
+ghost use Rattle.book.specs.Answer.{outcome};
 use crate::site::Book;
 use amounts::decline::Decline;
 use layout::verdict::Verdict;

@@ -2,10 +2,10 @@
 ghost use mathlib.Core.Path.{_≡_};
 ghost use Prim.Native.Nat.{_+_, _*_, _≤_};
 ghost use lib.ListN.{length};
-ghost use Rattle.book.specs.Answer.{outcome};
 ghost use Rattle.layout.specs.Each.{putTo};
-ghost use Rattle.book.specs.Site.{Sound};
 ghost use Rattle.layout.specs.Stage.{rateRow};
+ghost use Rattle.book.specs.Answer.{outcome};
+ghost use Rattle.book.specs.Site.{Sound};
 ghost use Rattle.book.specs.Stage.{describedOn};
 use crate::answer;
 use crate::answer::Answered;

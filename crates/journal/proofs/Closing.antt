@@ -8,13 +8,13 @@ use native.Mathlib.Omega.{arith}
 use borrow.Author.Tests.{eq-eqb, ne-eqb}
 use lib.Dec.{eqb}
 use lib.ListN.{length, getD}
-use Rattle.book.specs.Ledger.{held, water, gas, at, cell, moved, closesTo, settled}
 use Rattle.layout.specs.Setup.{noRates}
+use Rattle.layout.specs.declared.setup.Rates.{Rates}
+use Rattle.book.specs.Ledger.{held, water, gas, at, cell, moved, closesTo, settled}
 use Rattle.book.specs.Posting.{closedBook}
 use Rattle.book.specs.Report.{ratesOf}
 use Rattle.book.specs.Site.{Sound}
 use Rattle.book.specs.declared.site.Book.{Book}
-use Rattle.layout.specs.declared.setup.Rates.{Rates}
 use Rattle.book.proofs.ledger.Laws.{closes-below, length-settled}
 use Rattle.journal.proofs.Moved.{moved-other, moved-from, moved-into}
 

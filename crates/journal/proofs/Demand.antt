@@ -12,31 +12,31 @@ use Rattle.amounts.specs.Decline.{Answer, taken, declined, checked, isTaken, va
 use Rattle.amounts.specs.Filed.{filedOf}
 use Rattle.amounts.proofs.decline.Laws.{was-taken, one-taken}
 use Rattle.layout.specs.Each.{sumTo, listTo}
-use Rattle.book.specs.Entered.{enters, handles}
 use Rattle.layout.specs.Outline.{mayPost}
 use Rattle.layout.specs.Post.{postAt}
+use Rattle.layout.specs.Setup.{classesIn, contentsIn, countedAll}
+use Rattle.layout.specs.declared.outline.Outline.{Outline}
+use Rattle.layout.specs.declared.setup.Setup.{Setup}
+use Rattle.layout.proofs.Each.{and-true, length-list}
+use Rattle.layout.proofs.setup.Laws.{within-true}
+use Rattle.book.specs.Entered.{enters, handles}
 use Rattle.book.specs.Posting.{postOn}
 use Rattle.book.specs.Posts.{postIn, postsOn, withBlock}
 use Rattle.book.specs.Report.{mapHeadings, filingOf, reportAt, reportOf}
 use Rattle.book.specs.Setup.{setUpOn, withSetup}
-use Rattle.layout.specs.Setup.{classesIn, contentsIn, countedAll}
 use Rattle.book.specs.Site.{Sound, content, freshBook}
 use Rattle.book.specs.Stage.{describedOn, withStage}
-use Rattle.layout.specs.declared.outline.Outline.{Outline}
 use Rattle.book.specs.declared.report.Report.{Report}
 use Rattle.book.specs.declared.site.Book.{Book}
-use Rattle.layout.specs.declared.setup.Setup.{Setup}
-use Rattle.layout.proofs.Each.{and-true, length-list}
 use Rattle.book.proofs.posting.Checks.{AllPass, passed, post-was-taken}
 use Rattle.book.proofs.posting.Laws.{handled-few}
 use Rattle.book.proofs.report.Laws.{report-handled, report-entered, headings-fit, figures-within}
-use Rattle.layout.proofs.setup.Laws.{within-true}
 use Rattle.book.proofs.site.Laws.{sound-fresh}
-use Rattle.journal.specs.Block.{kindOf, countOf, bodyOf, frameChecks, byKind, blockOn}
-use Rattle.journal.specs.Demand.{Call, post, block, answerTo, after, run, keep, accepted, postsIn, postsOf, blocksIn, blocksOf, countedOf, sumOver, Balanced, Demand3}
 use Rattle.book.proofs.posts.Laws.{post-step, Many, many-taken, posts-count, posts-taken, posts-sound}
 use Rattle.book.proofs.setup.Taken.{set-up-taken}
 use Rattle.book.proofs.stage.Taken.{described-taken}
+use Rattle.journal.specs.Block.{kindOf, countOf, bodyOf, frameChecks, byKind, blockOn}
+use Rattle.journal.specs.Demand.{Call, post, block, answerTo, after, run, keep, accepted, postsIn, postsOf, blocksIn, blocksOf, countedOf, sumOver, Balanced, Demand3}
 
 -- ---- an accepted block
 

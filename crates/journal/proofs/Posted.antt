@@ -11,16 +11,16 @@ use lib.ListN.{length, length-append}
 use Rattle.amounts.specs.Decline.{taken}
 use Rattle.amounts.proofs.decline.Laws.{was-taken}
 use Rattle.layout.specs.Each.{sumTo, listTo}
-use Rattle.book.specs.Ledger.{held, cell, closesTo}
 use Rattle.layout.specs.Post.{postAt, isClose, amountOf}
+use Rattle.layout.specs.declared.post.Post.{Post}
+use Rattle.layout.specs.declared.setup.Setup.{Setup}
+use Rattle.layout.proofs.Each.{sum-none}
+use Rattle.book.specs.Ledger.{held, cell, closesTo}
 use Rattle.book.specs.Posting.{closedBook, applied, postOn, Applies}
 use Rattle.book.specs.Posts.{takenTo}
 use Rattle.book.specs.Report.{ratesOf}
 use Rattle.book.specs.Site.{Sound}
-use Rattle.layout.specs.declared.post.Post.{Post}
 use Rattle.book.specs.declared.site.Book.{Book}
-use Rattle.layout.specs.declared.setup.Setup.{Setup}
-use Rattle.layout.proofs.Each.{sum-none}
 use Rattle.book.proofs.Sums.{sum-same}
 use Rattle.book.proofs.posting.Checks.{post-was-taken}
 use Rattle.book.proofs.posting.Laws.{applied-receipt, applied-issue, applied-forming, applied-transfer, applied-close, cell-few}

@@ -12,11 +12,11 @@ use lib.Seq.{drop-nil, getD-set-same, getD-set-other}
 use Rattle.layout.specs.Bytes.{le}
 use Rattle.layout.specs.Each.{putTo}
 use Rattle.layout.specs.Setup.{noRates, numbersIn, classesIn, contentsIn, countedAll, setupOf}
-use Rattle.book.specs.Site.{SoundSetup}
 use Rattle.layout.specs.Stage.{ratesAt, rateRow}
-use Rattle.book.specs.Stage.{withStage}
 use Rattle.layout.specs.declared.setup.Setup.{Setup}
 use Rattle.layout.proofs.Each.{put-at, put-other}
+use Rattle.book.specs.Site.{SoundSetup}
+use Rattle.book.specs.Stage.{withStage}
 use Rattle.book.proofs.site.Laws.{same-at}
 use Rattle.book.proofs.stage.Taken as stage
 use Rattle.journal.specs.Block.{countOf, bodyOf}

@@ -7,14 +7,14 @@ use native.Mathlib.Omega.{arith}
 use lib.ListN.{length}
 use Rattle.amounts.specs.Decline.{Answer, taken, declined, isTaken, valueOr}
 use Rattle.layout.specs.Each.{listTo}
+use Rattle.layout.specs.Setup.{setupOf}
+use Rattle.layout.specs.declared.setup.Setup.{Setup}
 use Rattle.book.specs.Posting.{postOn}
 use Rattle.book.specs.Posts.{postIn, postsOn, withBlock}
 use Rattle.book.specs.Setup.{setUpOn}
-use Rattle.layout.specs.Setup.{setupOf}
 use Rattle.book.specs.Site.{Sound, freshBook}
 use Rattle.book.specs.Stage.{describedOn, withStage}
 use Rattle.book.specs.declared.site.Book.{Book}
-use Rattle.layout.specs.declared.setup.Setup.{Setup}
 use Rattle.book.proofs.posts.Laws.{post-step, many-taken, posts-taken, posts-sound}
 use Rattle.book.proofs.setup.Taken.{set-up-taken}
 use Rattle.book.proofs.site.Laws.{sound-fresh}

@@ -13,18 +13,18 @@ use Rattle.amounts.specs.Threshold.{dueOf}
 use Rattle.amounts.specs.Treatment.{partsOf}
 use Rattle.amounts.specs.declared.treatment.Parts.{Parts}
 use Rattle.layout.specs.Each.{sumTo}
+use Rattle.layout.specs.Post.{postAt}
+use Rattle.layout.specs.Setup.{numbersIn, classesIn, contentsIn, countedAll}
+use Rattle.layout.specs.declared.post.Post.{Post}
+use Rattle.layout.specs.declared.setup.Rates.{Rates}
+use Rattle.layout.specs.declared.setup.Setup.{Setup}
 use Rattle.book.specs.Entered.{forms, enters, handles}
 use Rattle.book.specs.Ledger.{held, gas, water, cell, closesTo}
-use Rattle.layout.specs.Post.{postAt}
 use Rattle.book.specs.Report.{atOne, atTwo, ratesOf, stageLine, lineTo, filingOf, reportAt, reportOf}
-use Rattle.layout.specs.Setup.{numbersIn, classesIn, contentsIn, countedAll}
 use Rattle.book.specs.Site.{freshBook}
-use Rattle.layout.specs.declared.post.Post.{Post}
 use Rattle.book.specs.declared.report.Line.{Line}
 use Rattle.book.specs.declared.report.Report.{Report}
 use Rattle.book.specs.declared.site.Book.{Book}
-use Rattle.layout.specs.declared.setup.Rates.{Rates}
-use Rattle.layout.specs.declared.setup.Setup.{Setup}
 use Rattle.book.proofs.Sums.{sum-same}
 use Rattle.journal.specs.Block.{countOf, bodyOf}
 use Rattle.journal.specs.Demand as demand

@@ -8,8 +8,8 @@ use Rattle.amounts.specs.Decline as number
 use Rattle.amounts.specs.Decline.{Answer, declined, Check, check, checked, onTaken}
 use Rattle.layout.specs.Bytes.{le, part}
 use Rattle.layout.specs.Each.{sumTo}
-use Rattle.book.specs.Posts.{postsOn}
 use Rattle.layout.specs.Setup.{within}
+use Rattle.book.specs.Posts.{postsOn}
 use Rattle.book.specs.Setup.{setUpOn}
 use Rattle.book.specs.Stage.{describedOn}
 use Rattle.book.specs.declared.site.Book.{Book}

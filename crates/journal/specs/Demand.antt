@@ -8,12 +8,12 @@ use lib.ListN.{length, getD}
 use Rattle.amounts.specs.Decline.{Answer, taken, isTaken, valueOr}
 use Rattle.amounts.specs.Filed.{stepOf}
 use Rattle.layout.specs.Each.{listTo}
-use Rattle.book.specs.Entered.{enters, handles}
 use Rattle.layout.specs.Post.{postAt}
+use Rattle.layout.specs.Setup.{classesIn, contentsIn, countedAll}
+use Rattle.book.specs.Entered.{enters, handles}
 use Rattle.book.specs.Posting.{postOn}
 use Rattle.book.specs.Posts.{postIn}
 use Rattle.book.specs.Report.{sixOf, weigh, mapHeadings, reportOf}
-use Rattle.layout.specs.Setup.{classesIn, contentsIn, countedAll}
 use Rattle.book.specs.Site.{freshBook}
 use Rattle.book.specs.declared.report.Filing.the-variants.{Figures}
 use Rattle.book.specs.declared.report.Headings.{Headings}

@@ -11,17 +11,17 @@ use Rattle.amounts.specs.Threshold.{dueOf}
 use Rattle.amounts.specs.Treatment.{partsOf}
 use Rattle.amounts.specs.declared.treatment.Parts.{Parts}
 use Rattle.layout.specs.Each.{sumTo}
-use Rattle.book.specs.Entered.{forms}
-use Rattle.book.specs.Ledger.{brings}
 use Rattle.layout.specs.Post.{postAt, isClose, amountOf}
-use Rattle.book.specs.Report.{atOne, atTwo, filingOf, reportOf}
 use Rattle.layout.specs.Setup.{numbersIn, classesIn}
-use Rattle.book.specs.Site.{freshBook}
 use Rattle.layout.specs.Stage.{rateRow}
 use Rattle.layout.specs.declared.post.Post.{Post}
+use Rattle.layout.specs.declared.setup.Rates.{Rates}
+use Rattle.book.specs.Entered.{forms}
+use Rattle.book.specs.Ledger.{brings}
+use Rattle.book.specs.Report.{atOne, atTwo, filingOf, reportOf}
+use Rattle.book.specs.Site.{freshBook}
 use Rattle.book.specs.declared.report.Line.{Line}
 use Rattle.book.specs.declared.report.Report.{Report}
-use Rattle.layout.specs.declared.setup.Rates.{Rates}
 use Rattle.journal.specs.Block.{countOf, bodyOf}
 use Rattle.journal.specs.Demand.{Call, run, accepted, postsOf, blocksOf, setUpOf, countedOf, sumOver}
 

@@ -7,8 +7,8 @@ use native.Mathlib.Omega.{arith}
 use lib.Dec.{T, eqb, nltb→le, eqb→eq}
 use lib.Ieee.{Float, nan, inf, fin, binary64, ofBits, up, down, le, lt, eq, toUnsigned}
 use lib.Ieee.Fits.{down-pos, and-r}
-use Rattle.std.proofs.num.Truncating.{one, two-to}
 use Rattle.amounts.specs.Whole.{wholePart}
+use Rattle.std.proofs.num.Truncating.{one, two-to}
 
 -- the code's 2 ^ 64, by its bit pattern
 abbrev limit : Float

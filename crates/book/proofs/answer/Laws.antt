@@ -6,12 +6,12 @@ use native.Mathlib.Omega.{arith}
 use Rattle.amounts.specs.Decline.{Answer, Check, taken, declined, checked}
 use Rattle.amounts.specs.declared.decline.Decline.{Decline}
 use Rattle.layout.specs.Verdict.{verdictOf}
+use Rattle.layout.specs.declared.verdict.Verdict.{Verdict}
+use Rattle.layout.specs.declared.verdict.Verdict.the-variants.{Accepted, Declined}
 use Rattle.layout.proofs.verdict.Laws.{accepts, declines}
 use Rattle.book.specs.Answer.{outcome}
 use Rattle.book.specs.declared.answer.Answered.{Answered}
 use Rattle.book.specs.declared.site.Book.{Book}
-use Rattle.layout.specs.declared.verdict.Verdict.{Verdict}
-use Rattle.layout.specs.declared.verdict.Verdict.the-variants.{Accepted, Declined}
 
 -- ---- what a call returns
 

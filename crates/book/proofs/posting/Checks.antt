@@ -9,16 +9,16 @@ use lib.ListN.{getD}
 use Rattle.amounts.specs.Decline.{Answer, taken, declined, Check, check, checked, onTaken}
 use Rattle.amounts.specs.declared.form.Inputs.{Inputs}
 use Rattle.amounts.proofs.decline.Laws.{was-taken}
-use Rattle.book.specs.Ledger.{held, cell}
 use Rattle.layout.specs.Outline.{mayPost}
 use Rattle.layout.specs.Post.{postAt, layoutFits, floatsFit, lossFor, lossOver, floatsOf, amountWith, amountOf}
-use Rattle.book.specs.Posting.{applied, readChecks, hasRoom, isThere, bookChecks, postOn, readOf, admitted, Applies}
-use Rattle.book.specs.Site.{Sound}
 use Rattle.layout.specs.declared.outline.Outline.{Outline}
 use Rattle.layout.specs.declared.post.Post.{Post}
+use Rattle.layout.proofs.post.Laws.{Laid, laid, loss-refused, loss-weighed, amount-small, amount-formed}
+use Rattle.book.specs.Ledger.{held, cell}
+use Rattle.book.specs.Posting.{applied, readChecks, hasRoom, isThere, bookChecks, postOn, readOf, admitted, Applies}
+use Rattle.book.specs.Site.{Sound}
 use Rattle.book.specs.declared.posting.Reading.{Reading}
 use Rattle.book.specs.declared.site.Book.{Book}
-use Rattle.layout.proofs.post.Laws.{Laid, laid, loss-refused, loss-weighed, amount-small, amount-formed}
 
 -- ---- tables
 

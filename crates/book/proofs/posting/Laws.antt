@@ -10,12 +10,12 @@ use native.Mathlib.Omega.{arith}
 use lib.Dec.{eqb}
 use lib.ListN.{length, getD, set, length-set}
 use lib.Seq.{getD-set-same, getD-set-other}
+use Rattle.layout.specs.Outline.{mayPost}
+use Rattle.layout.specs.declared.post.Post.{Post}
 use Rattle.book.specs.Entered.{forms, enters, handles}
 use Rattle.book.specs.Ledger.{held, accountOf, cellOf, cell, total, moved, raised, brings, settled}
-use Rattle.layout.specs.Outline.{mayPost}
 use Rattle.book.specs.Posting.{withPost, received, issued, formed, transferred, closedBook, applied, storeAfter, sumsAfter, handledAfter, Applies, Entry}
 use Rattle.book.specs.Site.{Sound, storedTo, content}
-use Rattle.layout.specs.declared.post.Post.{Post}
 use Rattle.book.specs.declared.site.Book.{Book}
 use Rattle.book.proofs.Sums.{sum-point}
 use Rattle.book.proofs.ledger.Laws.{total-set, total-other, cell-le, length-moved, total-moved, length-settled, total-settled, length-raised, handled-raised, total-raised}

@@ -10,22 +10,22 @@ use borrow.Author.Tests.{eqb-true, not-true}
 use lib.ListN.{length, getD}
 use Rattle.amounts.specs.Decline.{Answer, taken, declined, checked, onTaken}
 use Rattle.amounts.proofs.decline.Laws.{was-taken, on-taken, only-taken}
-use Rattle.book.specs.Answer.{outcome}
 use Rattle.layout.specs.Each.{sumTo}
-use Rattle.book.specs.Entered.{enters, handles}
 use Rattle.layout.specs.Outline.{mayPost}
 use Rattle.layout.specs.Post.{postAt}
+use Rattle.layout.specs.declared.outline.Outline.{Outline}
+use Rattle.layout.specs.declared.setup.Setup.{Setup}
+use Rattle.layout.proofs.Each.{sum-again, sum-none}
+use Rattle.layout.proofs.setup.Laws.{within-true}
+use Rattle.book.specs.Answer.{outcome}
+use Rattle.book.specs.Entered.{enters, handles}
 use Rattle.book.specs.Posting.{postOn}
 use Rattle.book.specs.Posts.{postIn, takenTo, numbered, withBlock, runOn, ownChecks, postsOn}
 use Rattle.book.specs.Site.{Sound, content}
 use Rattle.book.specs.declared.answer.Answered.{Answered}
-use Rattle.layout.specs.declared.outline.Outline.{Outline}
 use Rattle.book.specs.declared.site.Book.{Book}
-use Rattle.layout.specs.declared.setup.Setup.{Setup}
-use Rattle.layout.proofs.Each.{sum-again, sum-none}
 use Rattle.book.proofs.posting.Checks.{passed, post-was-taken}
 use Rattle.book.proofs.posting.Laws.{Step, applied-step}
-use Rattle.layout.proofs.setup.Laws.{within-true}
 
 -- ---- posts in turn
 

@@ -10,13 +10,16 @@ use lib.Dec.{eqb}
 use lib.ListN.{getD}
 use Rattle.amounts.specs.Treatment.{partsOf}
 use Rattle.amounts.specs.declared.treatment.Parts.{Parts}
-use Rattle.amounts.proofs.treatment.Laws.{conserved}
 use Rattle.amounts.specs.Decline.{taken, declined}
 use Rattle.amounts.specs.Filed.{stepOf, filedOf}
+use Rattle.amounts.proofs.treatment.Laws.{conserved}
 use Rattle.amounts.proofs.filed.Laws.{filed-within}
 use Rattle.layout.specs.Each.{sumTo}
-use Rattle.book.specs.Ledger.{cell, total}
 use Rattle.layout.specs.Setup.{noRates}
+use Rattle.layout.specs.declared.setup.Rates.{Rates}
+use Rattle.layout.specs.declared.setup.Setup.{Setup}
+use Rattle.layout.proofs.Each.{sum-again}
+use Rattle.book.specs.Ledger.{cell, total}
 use Rattle.book.specs.Report.{atOne, atTwo, ratesOf, stageLine, lineTo, sixOf, weigh, mapHeadings, filingOf, dueIn, reportAt, reportOf}
 use Rattle.book.specs.Reporting.{cellsOf, weighCells, lineFrom, lineOf, addLines}
 use Rattle.book.specs.Site.{stored, content, Rated, Sound}
@@ -25,9 +28,6 @@ use Rattle.book.specs.declared.report.Headings.{Headings}
 use Rattle.book.specs.declared.report.Line.{Line}
 use Rattle.book.specs.declared.report.Filing.{Filing}
 use Rattle.book.specs.declared.site.Book.{Book}
-use Rattle.layout.specs.declared.setup.Rates.{Rates}
-use Rattle.layout.specs.declared.setup.Setup.{Setup}
-use Rattle.layout.proofs.Each.{sum-again}
 use Rattle.book.proofs.Sums.{term-le, sum-mono}
 
 -- an amount goes to one of the two destinations

@@ -13,14 +13,14 @@ use Rattle.amounts.specs.Content.{countedFrom, countedOf}
 use Rattle.amounts.specs.Decline.{taken, check, checked, valueOr, layout}
 use Rattle.layout.specs.Verdict.{verdictOf}
 use Rattle.layout.specs.Setup.{noRates, materialsIn, stagesIn, classesIn, contentsIn, countedAll, setupChecks, setupOf}
-use Rattle.book.specs.Setup.{withSetup, setUpOn}
-use Rattle.book.specs.Site.{Sound, SoundSetup}
 use Rattle.layout.specs.declared.verdict.Verdict.the-variants.{Accepted}
 use Rattle.layout.specs.declared.outline.Outline.{Outline}
-use Rattle.book.specs.declared.site.Book.{Book}
 use Rattle.layout.proofs.Each.{list-keeps}
 use Rattle.layout.proofs.verdict.Laws.{first, took}
 use Rattle.layout.proofs.setup.Laws.{within-true}
+use Rattle.book.specs.Setup.{withSetup, setUpOn}
+use Rattle.book.specs.Site.{Sound, SoundSetup}
+use Rattle.book.specs.declared.site.Book.{Book}
 use Rattle.book.proofs.site.Laws.{none-rated, sound-setup}
 
 -- a content that counts is at most the whole

@@ -7,12 +7,12 @@ use native.Mathlib.Omega.{arith}
 use lib.ListN.{getD, replicate, length-replicate}
 use Rattle.layout.specs.Each.{sumTo}
 use Rattle.layout.specs.Setup.{noRates}
+use Rattle.layout.specs.declared.setup.Setup.{Setup}
+use Rattle.layout.proofs.Each.{sum-none}
 use Rattle.book.specs.Ledger.{total, cellOf}
 use Rattle.book.specs.Setup.{withSetup}
 use Rattle.book.specs.Site.{Sound, SoundSetup, Rated, freshBook, storedTo}
 use Rattle.book.specs.declared.site.Book.{Book}
-use Rattle.layout.specs.declared.setup.Setup.{Setup}
-use Rattle.layout.proofs.Each.{sum-none}
 
 -- each place of a list of one value has it
 pub same-at : {A : Type 0} (n i : ℕ) (a : A) → getD (replicate n a) i a ≡ a

@@ -11,17 +11,17 @@ use Rattle.amounts.specs.Content.{isPpm}
 use Rattle.amounts.specs.Decline.{taken, checked}
 use Rattle.layout.specs.Verdict.{verdictOf}
 use Rattle.layout.specs.Setup.{noRates, within}
-use Rattle.book.specs.Setup.{withSetup}
-use Rattle.book.specs.Site.{Sound, SoundSetup, Rated}
 use Rattle.layout.specs.Stage.{rateRow, ratesFit, allRatesFit, stageChecks}
-use Rattle.book.specs.Stage.{withStage, describedOn}
 use Rattle.layout.specs.declared.verdict.Verdict.the-variants.{Accepted}
 use Rattle.layout.specs.declared.outline.Outline.{Outline}
-use Rattle.book.specs.declared.site.Book.{Book}
 use Rattle.layout.specs.declared.setup.Rates.{Rates}
 use Rattle.layout.specs.declared.setup.Setup.{Setup}
 use Rattle.layout.proofs.Each.{and-true, all-at, length-put, put-keeps}
 use Rattle.layout.proofs.verdict.Laws.{first, took}
+use Rattle.book.specs.Setup.{withSetup}
+use Rattle.book.specs.Site.{Sound, SoundSetup, Rated}
+use Rattle.book.specs.Stage.{withStage, describedOn}
+use Rattle.book.specs.declared.site.Book.{Book}
 use Rattle.book.proofs.site.Laws.{sound-setup}
 
 pub fit-rated : (r : Rates) → ratesFit r ≡ true → Rated r

@@ -7,13 +7,13 @@ use lib.ListN.{length}
 use Rattle.amounts.specs.Decline.{Answer, declined, checked, onTaken}
 use Rattle.amounts.specs.declared.decline.Decline.{Decline}
 use Rattle.layout.specs.Verdict.{verdictOf}
+use Rattle.layout.specs.declared.verdict.Verdict.{Verdict}
+use Rattle.layout.specs.declared.verdict.Verdict.the-variants.{Accepted, Declined}
+use Rattle.layout.proofs.verdict.Laws.{accepts, declines, first}
 use Rattle.book.specs.Posts.{postsOn}
 use Rattle.book.specs.Setup.{setUpOn}
 use Rattle.book.specs.Stage.{describedOn}
-use Rattle.layout.specs.declared.verdict.Verdict.{Verdict}
-use Rattle.layout.specs.declared.verdict.Verdict.the-variants.{Accepted, Declined}
 use Rattle.book.specs.declared.site.Book.{Book}
-use Rattle.layout.proofs.verdict.Laws.{accepts, declines, first}
 use Rattle.journal.specs.Block.{kindOf, countOf, bodyOf, frameChecks, byKind, blockOn}
 
 -- what the frame's verdict tells, the number being the book's

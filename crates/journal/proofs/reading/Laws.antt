@@ -9,25 +9,25 @@ use borrow.Author.Tests.{ltb-true, ltb-false, le-leb, lt-leb}
 use lib.Dec.{ltb}
 use lib.ListN.{length, length-append}
 use Rattle.amounts.specs.Decline.{Answer, taken, declined, unknown}
+use Rattle.amounts.specs.declared.decline.Decline.{Decline}
 use Rattle.amounts.proofs.decline.Laws.{one-taken, one-declined}
+use Rattle.layout.specs.declared.verdict.Verdict.the-variants.{Accepted, Declined}
 use Rattle.book.specs.Report as reporting
 use Rattle.book.specs.Report.{reportAt, reportOf}
 use Rattle.book.specs.declared.report.Report.{Report}
 use Rattle.book.specs.declared.report.Reported as reports
 use Rattle.book.specs.declared.report.Reported.the-variants.{Known, Declined as Refused}
-use Rattle.amounts.specs.declared.decline.Decline.{Decline}
 use Rattle.book.specs.Answer.{outcome}
 use Rattle.book.specs.Site.{freshBook, Sound}
 use Rattle.book.specs.declared.answer.Answered.{Answered}
-use Rattle.layout.specs.declared.verdict.Verdict.the-variants.{Accepted, Declined}
 use Rattle.book.specs.declared.site.Book.{Book}
+use Rattle.book.specs.Posts.{postIn}
 use Rattle.book.proofs.answer.Laws.{was-accepted, was-declined}
 use Rattle.book.proofs.posts.Laws.{many-taken, posts-taken, posts-sound}
 use Rattle.book.proofs.setup.Taken.{set-up-taken}
 use Rattle.book.proofs.stage.Taken.{described-taken}
 use Rattle.book.proofs.site.Laws.{sound-fresh}
 use Rattle.journal.specs.Block.{countOf, bodyOf, blockOn}
-use Rattle.book.specs.Posts.{postIn}
 use Rattle.journal.specs.Demand.{block}
 use Rattle.journal.specs.Reading.{partsOf, onward, readAll, linesTo, returnText, outcomeText, filingOf, started, afterBlock, fedWhile, fed, fedAll, textWhile, textOf}
 use Rattle.journal.specs.Text.{title, lineText, refusedText}

@@ -9,10 +9,10 @@ use native.Mathlib.Decide.{ℕ-discrete, decLe}
 use lib.ListN.{length, take, drop, length-drop, drop-of-length-le}
 use lib.Seq.{take-all, drop-drop}
 use Rattle.amounts.specs.declared.decline.Decline.{Decline}
+use Rattle.layout.specs.declared.verdict.Verdict.the-variants.{Accepted, Declined}
 use Rattle.book.specs.Answer.{outcome}
 use Rattle.book.specs.Site.{Sound, freshBook}
 use Rattle.book.specs.declared.answer.Answered.{Answered}
-use Rattle.layout.specs.declared.verdict.Verdict.the-variants.{Accepted, Declined}
 use Rattle.book.specs.declared.site.Book.{Book}
 use Rattle.journal.specs.Block.{blockOn}
 use Rattle.journal.specs.Reading.{partsTo, partsOf, started, fed, fedAll}

@@ -2,8 +2,8 @@ use mathlib.Core.Bool.{true}
 use mathlib.Core.Path.{_≡_}
 use borrow.Author.Tests.{le-leb, lt-leb}
 use borrow.Author.Needs.{needs}
-use Rattle.amounts.proofs.form.Laws.{read, refused}
 use Rattle.amounts.specs.Form.{isForm, formOf}
+use Rattle.amounts.proofs.form.Laws.{read, refused}
 use Rattle.amounts.proofs.form.read_form.Statement.{statement}
 use Rattle.amounts.proofs.form.read_form.Tie as tie
 

@@ -1,10 +1,10 @@
 use mathlib.Core.Bool.{true}
 use mathlib.Core.Path.{_≡_}
 use borrow.Author.Needs.{needs}
-use Rattle.amounts.proofs.pattern.Laws.{read, refused}
 use Rattle.amounts.specs.Pattern.{inRange}
 use Rattle.amounts.specs.Form.{inputsOf}
 use Rattle.amounts.specs.Binary64.{valueOf}
+use Rattle.amounts.proofs.pattern.Laws.{read, refused}
 use Rattle.amounts.proofs.form.read_inputs.Statement.{statement}
 use Rattle.amounts.proofs.form.read_inputs.Tie as tie
 

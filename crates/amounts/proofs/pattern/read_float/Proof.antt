@@ -1,5 +1,5 @@
-use Rattle.amounts.proofs.pattern.Laws.{finite-below, not-finite, no-nan}
 use Rattle.amounts.specs.Pattern.{readingOf}
+use Rattle.amounts.proofs.pattern.Laws.{finite-below, not-finite, no-nan}
 use Rattle.amounts.proofs.pattern.read_float.Statement.{statement}
 use Rattle.amounts.proofs.pattern.read_float.Tie as tie
 

@@ -1,8 +1,8 @@
 use Prim.Native.Nat.{_≤_}
 use borrow.Author.Tests.{le-leb, lt-leb}
 use borrow.Author.Needs.{needs}
-use Rattle.amounts.proofs.treatment.Laws.{share-le}
 use Rattle.amounts.specs.Treatment.{splitOf}
+use Rattle.amounts.proofs.treatment.Laws.{share-le}
 use Rattle.amounts.proofs.treatment.split_total.Statement.{statement}
 use Rattle.amounts.proofs.treatment.split_total.Tie as tie
 

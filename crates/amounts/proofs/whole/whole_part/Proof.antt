@@ -3,10 +3,10 @@ use mathlib.Core.Path.{sym, subst}
 use lib.Dec.{T}
 use lib.Ieee.{Float, binary64, fits, le, lt}
 use borrow.Author.Needs.{needs}
-use Rattle.std.proofs.num.Truncating.{one, two-to, at-least-one, under-one, is-no-nan, down-by, up-by, cut-down, cut-up, below-one}
 use Rattle.amounts.proofs.whole.Laws.{under, not-under, saturated}
 use Rattle.amounts.proofs.whole.whole_part.Statement.{statement}
 use Rattle.amounts.proofs.whole.whole_part.Tie as tie
+use Rattle.std.proofs.num.Truncating.{one, two-to, at-least-one, under-one, is-no-nan, down-by, up-by, cut-down, cut-up, below-one}
 
 abbrev x : tie.Start → Float
 x c = c .args .x

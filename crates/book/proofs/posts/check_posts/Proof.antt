@@ -10,12 +10,12 @@ use borrow.Author.Tests.{eq-eqb, ne-eqb}
 use Rattle.amounts.specs.Decline.{checked}
 use Rattle.layout.specs.Verdict.{verdictOf}
 use Rattle.layout.specs.Bytes.{allZero}
-use Rattle.book.specs.Posts.{ownChecks}
 use Rattle.layout.specs.declared.verdict.Verdict.{Verdict}
 use Rattle.layout.specs.declared.outline.Outline.{Outline}
 use Rattle.layout.proofs.verdict.Laws.{holds, misses, past, stop, through}
 use Rattle.layout.proofs.bytes.Laws.{tail-is}
 use Rattle.layout.proofs.setup.Laws.{within-true}
+use Rattle.book.specs.Posts.{ownChecks}
 use Rattle.book.proofs.posts.check_posts.Statement.{statement}
 use Rattle.book.proofs.posts.check_posts.Tie as tie
 

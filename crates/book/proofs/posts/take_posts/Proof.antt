@@ -3,10 +3,10 @@ use denote.Ref.{now}
 use native.Mathlib.Omega.{arith}
 use borrow.Author.Needs.{needs}
 use Rattle.amounts.specs.Decline.{taken}
+use Rattle.layout.proofs.verdict.Laws.{accepts, declines}
 use Rattle.book.specs.Answer.{outcome}
 use Rattle.book.specs.Posts.{ownChecks, postsOn}
 use Rattle.book.specs.Site.{Sound}
-use Rattle.layout.proofs.verdict.Laws.{accepts, declines}
 use Rattle.book.proofs.answer.Laws.{stays}
 use Rattle.book.proofs.posts.Laws.{owned, own, own-declined, block-run, posts-sound, sound-after}
 use Rattle.book.proofs.posts.take_posts.Statement.{statement}

@@ -1,9 +1,9 @@
 use mathlib.Core.Path.{sym, ap, _∙_}
 use denote.Ref.{now}
 use Rattle.layout.specs.Setup.{setupChecks, setupOf}
+use Rattle.layout.specs.declared.setup.Setup.{Setup}
 use Rattle.book.specs.Setup.{setUpOn, withSetup}
 use Rattle.book.specs.Site.{Sound}
-use Rattle.layout.specs.declared.setup.Setup.{Setup}
 use Rattle.book.proofs.answer.Laws.{refuses, grants}
 use Rattle.book.proofs.setup.Taken.{Accepts, accepted, sound-set-up}
 use borrow.Author.Needs.{needs}

@@ -1,9 +1,9 @@
 use mathlib.Core.Path.{sym, ap, subst}
 use mathlib.Core.Bool.{false}
 use lib.ListN.{replicate}
+use Rattle.layout.specs.declared.setup.Setup.{Setup}
 use Rattle.book.specs.Site.{Sound}
 use Rattle.book.specs.declared.site.Book.{Book}
-use Rattle.layout.specs.declared.setup.Setup.{Setup}
 use Rattle.book.proofs.site.Laws.{sound-fresh}
 use borrow.Author.Needs.{needs}
 use Rattle.book.proofs.site.fresh.Statement.{statement}

@@ -5,13 +5,13 @@ use Prim.Native.Nat.{ℕ, _+_, _*_}
 use native.Mathlib.Omega.{arith}
 use lib.ListN.{length-take, length-drop}
 use Rattle.layout.specs.Each.{putTo}
+use Rattle.layout.specs.Stage.{rateRow, stageChecks}
+use Rattle.layout.specs.declared.setup.Rates.{Rates}
+use Rattle.layout.proofs.bytes.Laws.{tail-is}
 use Rattle.book.specs.Setup.{withSetup}
 use Rattle.book.specs.Site.{Sound}
-use Rattle.layout.specs.Stage.{rateRow, stageChecks}
 use Rattle.book.specs.Stage.{withStage, describedOn}
-use Rattle.layout.specs.declared.setup.Rates.{Rates}
 use Rattle.book.proofs.answer.Laws.{refuses, grants}
-use Rattle.layout.proofs.bytes.Laws.{tail-is}
 use Rattle.book.proofs.stage.Taken.{Accepts, accepted, staged, sound-described}
 use borrow.Author.Needs.{needs}
 use Rattle.book.proofs.stage.describe.Statement.{statement}

@@ -3,11 +3,11 @@ use native.Mathlib.Omega.{arith}
 use lib.ListN.{length}
 use borrow.Author.Needs.{needs}
 use denote.Ref.{now}
-use Rattle.book.proofs.answer.Laws.{stays}
 use Rattle.book.specs.Site.{Sound}
 use Rattle.book.specs.Answer.{outcome}
-use Rattle.journal.proofs.block.Laws.{frame-fails, frame-long, sets-up, describes, posts}
+use Rattle.book.proofs.answer.Laws.{stays}
 use Rattle.journal.specs.Block.{blockOn}
+use Rattle.journal.proofs.block.Laws.{frame-fails, frame-long, sets-up, describes, posts}
 use Rattle.journal.proofs.block.take_block.Statement.{statement}
 use Rattle.journal.proofs.block.take_block.Tie as tie
 
