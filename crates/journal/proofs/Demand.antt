@@ -345,13 +345,10 @@ balanced calls d s l h g =
     nothing : (x n : ℕ) → x ≤ 2 * 10 ^ 15 * n → n ≡ 0 → x ≡ 0
     nothing x n f e = omega arith
 
--- the claim about every list of calls
-pub demand-3 : Demand3
-demand-3 calls s r e =
+-- each report of the book after a list of calls is in balance
+pub report-balanced : (calls : List Call) (s : ℕ) → s < run freshBook calls .setup .outline .substances → Balanced (accepted freshBook calls) s (reportAt (run freshBook calls) s)
+report-balanced calls s had =
     let b = run freshBook calls in
     let h = run-sound freshBook calls sound-fresh in
-    let z = report-taken b s r e in
     let few = h .setup .substances-few in
-    let l : s < 8 = omega (arith, z .0) in
-    let g = first calls freshBook sound-fresh refl (omega (arith, z .0)) in
-    subst (λ (x : Report). Balanced (accepted freshBook calls) s x) (sym (z .1)) (balanced (accepted freshBook calls) b s l h g)
+    balanced (accepted freshBook calls) b s (omega arith) h (first calls freshBook sound-fresh refl (omega arith))

@@ -5,5 +5,6 @@ pub mod Flows
 pub mod Closing
 pub mod Posted
 pub mod Told
+pub mod Claim
 pub mod Weighing
 pub mod Singles

@@ -4,7 +4,7 @@ use mathlib.Core.Bool.{Bool, true, false, true≢false}
 use mathlib.Core.List.{List, [], _∷_, _++_, append-assoc, append-nil}
 use Prim.Native.Nat.{ℕ, _+_, _≤_}
 use native.Mathlib.Omega.{arith}
-use lib.ListN.{length}
+use lib.ListN.{length, getD}
 use Rattle.amounts.specs.Decline.{Answer, taken, declined, isTaken, valueOr}
 use Rattle.layout.specs.Each.{listTo}
 use Rattle.layout.specs.Setup.{setupOf}
@@ -21,7 +21,7 @@ use Rattle.book.proofs.site.Laws.{sound-fresh}
 use Rattle.book.proofs.stage.Taken as stage
 use Rattle.book.proofs.stage.Taken.{described-taken}
 use Rattle.journal.specs.Block.{kindOf, countOf, bodyOf}
-use Rattle.journal.specs.Demand.{Call, post, block, answerTo, run, keep, accepted, postsIn, postsOf, blocksIn, blocksOf}
+use Rattle.journal.specs.Demand.{Call, post, block, answerTo, run, keep, accepted, postsIn, postsOf, blocksIn, blocksOf, substancesOf}
 use Rattle.journal.specs.Weighing.{closes}
 use Rattle.journal.proofs.Demand.{Kind, sets, describes, posts, block-taken, no-block, its-block, no-posts, its-posts, stage-later}
 use Rattle.journal.proofs.Posted.{State, still-open, shut, Posted, posted-none, posted-next, posted-many}
@@ -184,3 +184,14 @@ told-fresh = record { posted = posted-none freshBook sound-fresh refl refl; sett
 -- for every list of calls from a fresh book
 pub told-run : (calls : List Call) → Told (accepted freshBook calls) (run freshBook calls)
 told-run calls = tells calls [] freshBook told-fresh
+
+-- the substances of the book are those of the list
+pub substances-run : (calls : List Call) → run freshBook calls .setup .outline .substances ≡ substancesOf (accepted freshBook calls)
+substances-run calls = go (told-run calls .setting)
+  where
+    kept : List Call
+    kept = accepted freshBook calls
+
+    go : Setting (blocksOf 1 kept) (blocksOf 2 kept) (run freshBook calls .setup) → run freshBook calls .setup .outline .substances ≡ substancesOf kept
+    go (unset e f z) = z ∙ sym (ap (λ (x : List (List ℕ)). countOf (getD x 0 [])) e)
+    go (set-up t e f) = f .substances ∙ sym (ap (λ (x : List (List ℕ)). countOf (getD x 0 [])) e)

@@ -28,12 +28,12 @@ use Rattle.book.specs.declared.site.Book.{Book}
 use Rattle.book.proofs.Sums.{sum-same}
 use Rattle.journal.specs.Block.{countOf, bodyOf}
 use Rattle.journal.specs.Demand as demand
-use Rattle.journal.specs.Demand.{Call, run, accepted, postsOf, blocksOf, setUpOf, countedOf, sumOver, Balanced}
-use Rattle.journal.specs.Weighing.{substancesOf, numbersOf, classOf, waterTo, residueTo, ratesFor, stocks, opening, bought, issued, store, issues, moves, under, formed, handled, came, left, remains, closes, heldAt, toGas, toWater, gasTotal, waterTotal, gasSplit, waterSplit, residue, lineOf, told, answerOf, Weighed, ReportByPosts}
-use Rattle.journal.proofs.Demand.{demand-3}
+use Rattle.journal.specs.Demand.{Call, run, accepted, postsOf, blocksOf, setUpOf, substancesOf, countedOf, sumOver, Balanced}
+use Rattle.journal.specs.Weighing.{numbersOf, classOf, waterTo, residueTo, ratesFor, stocks, opening, bought, issued, store, issues, moves, under, formed, handled, came, left, remains, closes, heldAt, toGas, toWater, gasTotal, waterTotal, gasSplit, waterSplit, residue, lineOf, told, answerOf, Weighed, ReportByPosts}
+use Rattle.journal.proofs.Demand.{report-balanced}
 use Rattle.journal.proofs.Posted.{cameSum, leftSum, movedSum, State, still-open, shut}
 use Rattle.journal.proofs.Setting.{SetBy}
-use Rattle.journal.proofs.Told.{Setting, unset, set-up, Told, told-run}
+use Rattle.journal.proofs.Told.{Setting, unset, set-up, Told, told-run, substances-run}
 
 -- ---- what came in, by kind
 
@@ -287,11 +287,6 @@ same-answer s n x y e = go (ltb s n) refl
     go true q = ap taken (e (ltb-true s n q))
     go false q = refl
 
--- a report of a substance that the book has
-report-had : (b : Book) (s : ℕ) → s < b .setup .outline .substances → reportOf b s ≡ taken (reportAt b s)
-unfolding reportOf
-report-had b s l = rw (lt-ltb s (b .setup .outline .substances) l)
-
 module _ (calls : List Call) (s : ℕ) where
   abbrev last : Book
   last = run freshBook calls
@@ -299,27 +294,19 @@ module _ (calls : List Call) (s : ℕ) where
   abbrev kept : List Call
   kept = accepted freshBook calls
 
-  balance : s < last .setup .outline .substances → Balanced kept s (reportAt last s)
-  balance l = demand-3 calls s (reportAt last s) (report-had last s l)
-
-  -- the substances of the book are those of the list
-  had : Setting (blocksOf 1 kept) (blocksOf 2 kept) (last .setup) → last .setup .outline .substances ≡ substancesOf kept
-  had (unset e f z) = z ∙ sym (ap (λ (x : List (List ℕ)). countOf (getD x 0 [])) e)
-  had (set-up t e f) = f .substances ∙ sym (ap (λ (x : List (List ℕ)). countOf (getD x 0 [])) e)
-
   as-told : Setting (blocksOf 1 kept) (blocksOf 2 kept) (last .setup) → s < last .setup .outline .substances → (reportAt last s ≡ told kept s) × Weighed kept s
   as-told (unset e f z) l = absurd (omega arith)
-  as-told (set-up t e f) l = (report-told kept last t e (told-run calls) f s l (balance l), weighs kept last t e (told-run calls) f s l (balance l))
+  as-told (set-up t e f) l = (report-told kept last t e (told-run calls) f s l (report-balanced calls s l), weighs kept last t e (told-run calls) f s l (report-balanced calls s l))
 
   reported : reportOf last s ≡ answerOf kept s
   unfolding reportOf
   reported =
       let z = told-run calls .setting in
       same-answer s (last .setup .outline .substances) (reportAt last s) (told kept s) (λ l. as-told z l .0)
-      ∙ ap (λ (n : ℕ). checked (check (ltb s n) unknown ∷ []) (told kept s)) (had z)
+      ∙ ap (λ (n : ℕ). checked (check (ltb s n) unknown ∷ []) (told kept s)) (substances-run calls)
 
   is-weighed : s < substancesOf kept → Weighed kept s
-  is-weighed l = let z = told-run calls .setting in as-told z (subst (λ (n : ℕ). s < n) (sym (had z)) l) .1
+  is-weighed l = let z = told-run calls .setting in as-told z (subst (λ (n : ℕ). s < n) (sym (substances-run calls)) l) .1
 
 -- the claim about every list of calls
 pub report-by-posts : ReportByPosts

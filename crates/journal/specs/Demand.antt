@@ -1,5 +1,5 @@
 -- Demand 3 (document 01, "Treatment and report"): one claim about the whole list of calls. All that it sums is read from the bytes of the accepted calls.
-use Prim.Native.Nat.{ℕ, _+_, _*_, _≤_}
+use Prim.Native.Nat.{ℕ, _+_, _*_, _≤_, _<_}
 use mathlib.Core.Path.{_≡_}
 use mathlib.Core.Bool.{Bool, true, false, cond}
 use mathlib.Core.List.{List, [], _∷_, _++_}
@@ -69,6 +69,10 @@ blocksOf kind (call ∷ calls) = blocksIn kind call ++ blocksOf kind calls
 abbrev pub setUpOf : List Call → List ℕ
 setUpOf calls = getD (blocksOf 1 calls) 0 []
 
+-- "The book has the substances of the accepted kind 1 block, and none before it"
+abbrev pub substancesOf : List Call → ℕ
+substancesOf calls = countOf (setUpOf calls)
+
 -- "contents and classes being those of that kind 1 block": the contents as counted
 abbrev pub countedOf : List Call → List ℕ
 countedOf calls = countedAll (classesIn (bodyOf (setUpOf calls))) (contentsIn (bodyOf (setUpOf calls)))
@@ -103,4 +107,6 @@ pub record Balanced (calls : List Call) (s : ℕ) (r : Report) : Type 0 where
 
 -- for every list of calls given in turn to a fresh book, and every substance that the book then has
 abbrev pub Demand3 : Type 0
-Demand3 = (calls : List Call) (s : ℕ) (r : Report) → reportOf (run freshBook calls) s ≡ taken r → Balanced (accepted freshBook calls) s r
+Demand3 =
+    (calls : List Call) (s : ℕ) → s < substancesOf (accepted freshBook calls)
+    → (r : Report) × (reportOf (run freshBook calls) s ≡ taken r) × Balanced (accepted freshBook calls) s r

@@ -23,13 +23,9 @@ use Rattle.book.specs.Site.{freshBook}
 use Rattle.book.specs.declared.report.Line.{Line}
 use Rattle.book.specs.declared.report.Report.{Report}
 use Rattle.journal.specs.Block.{countOf, bodyOf}
-use Rattle.journal.specs.Demand.{Call, run, accepted, postsOf, blocksOf, setUpOf, countedOf, sumOver}
+use Rattle.journal.specs.Demand.{Call, run, accepted, postsOf, blocksOf, setUpOf, substancesOf, countedOf, sumOver}
 
 -- ---- the set-up, by its bytes
-
--- "Kind 1 .. Count: substances"
-abbrev pub substancesOf : List Call → ℕ
-substancesOf calls = countOf (setUpOf calls)
 
 abbrev pub numbersOf : List Call → List ℕ
 numbersOf calls = numbersIn (bodyOf (setUpOf calls))
