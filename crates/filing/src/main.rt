@@ -20,6 +20,9 @@ fn read_journal() -> Reading
             return state;
         }
         state = reading::feed(state, &part[..n]);
+        if reading::has_stopped(state) {
+            return state;
+        }
         left -= 1;
     }
     state
@@ -39,9 +42,11 @@ fn show(out: &[u8], n: usize) {
 
 fn main() {
     let state = read_journal();
-    if input_fails() {
-        io::write_all(STDERR_FILENO, b"filing: standard input can't be read\n");
-        return;
+    if !reading::has_stopped(state) {
+        if input_fails() {
+            io::write_all(STDERR_FILENO, b"filing: standard input can't be read\n");
+            return;
+        }
     }
     let mut out = [0u8; 1336];
     if let Written::At(n) = reading::print(state, &mut out) {

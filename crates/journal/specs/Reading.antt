@@ -1,6 +1,6 @@
 -- Reading a journal, and what `filing` prints (document 01, "`filing`").
 use Prim.Native.Nat.{ℕ, zero, suc, _+_}
-use mathlib.Core.Bool.{cond}
+use mathlib.Core.Bool.{Bool, true, false, cond}
 use mathlib.Core.List.{List, [], _∷_, _++_}
 use lib.Dec.{eqb}
 use lib.ListN.{length, take, drop}
@@ -74,6 +74,14 @@ fed r part = fedWhile (r .stopped) (r .book) part
 unfoldable pub fedAll : state.Reading → List (List ℕ) → state.Reading
 fedAll r [] = r
 fedAll r (part ∷ parts) = fedAll (fed r part) parts
+
+-- "At the first decline it stops"
+abbrev pub isDecline : Stopped → Bool
+isDecline No = false
+isDecline (By d) = true
+
+abbrev pub hasStopped : state.Reading → Bool
+hasStopped r = isDecline (r .stopped)
 
 -- what there is to print after a part: the place of the block that was declined is the number of those before it
 abbrev pub textWhile : Stopped → Book → List ℕ

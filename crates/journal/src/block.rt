@@ -22,16 +22,16 @@ pub struct CheckSums {
 fn has_tag(s: &[u8]) -> bool
     ensures { λ r. ⌜ r ≡ hasTag (now (s .entry)) ⌝ }
 {
-    if layout::bytes::byte_at(s, 0) != 80 {
+    if layout::bytes::byte_at(s, 0) != b'P' {
         return false;
     }
-    if layout::bytes::byte_at(s, 1) != 82 {
+    if layout::bytes::byte_at(s, 1) != b'R' {
         return false;
     }
-    if layout::bytes::byte_at(s, 2) != 84 {
+    if layout::bytes::byte_at(s, 2) != b'T' {
         return false;
     }
-    layout::bytes::byte_at(s, 3) == 82
+    layout::bytes::byte_at(s, 3) == b'R'
 }
 
 fn check_sums(s: &[u8]) -> CheckSums

@@ -3,7 +3,7 @@ ghost use mathlib.Core.Path.{_≡_};
 ghost use Prim.Native.Nat.{_+_, _≤_, min};
 ghost use lib.ListN.{length};
 ghost use Rattle.book.specs.Site.{Sound};
-ghost use Rattle.journal.specs.Reading.{partsOf, started, fed, fedAll, returnText, textOf};
+ghost use Rattle.journal.specs.Reading.{partsOf, started, fed, fedAll, hasStopped, returnText, textOf};
 ghost use Rattle.journal.specs.Writing.{Puts, Tries};
 use crate::block;
 use crate::text;
@@ -58,6 +58,17 @@ pub fn feed(r: Reading, part: &[u8]) -> Reading
             book: next,
             stopped: Stopped::By(d),
         },
+    }
+}
+
+// Whether a part was declined, after which no other counts.
+pub fn has_stopped(r: Reading) -> bool
+    ensures { λ x. ⌜ x ≡ hasStopped r ⌝ }
+{
+    let stopped = r.stopped;
+    match stopped {
+        Stopped::No => false,
+        Stopped::By(_) => true,
     }
 }
 

@@ -35,6 +35,12 @@ slice-aggregate-feed c = search needs
 feed-requires : tie.Need-feed-requires Inv-loop μ-loop
 feed-requires c κs = search needs
 
+has-stopped-requires : tie.Need-has-stopped-requires Inv-loop μ-loop
+has-stopped-requires c κs = search needs
+
+returns-2 : tie.Need-returns-2 Inv-loop μ-loop
+returns-2 c = search needs
+
 sub-left : tie.Need-sub-left Inv-loop μ-loop
 sub-left c = search needs
 
@@ -44,8 +50,8 @@ loop-less c = search needs
 loop-again : tie.Need-loop-again Inv-loop μ-loop
 loop-again c = search needs
 
-returns-2 : tie.Need-returns-2 Inv-loop μ-loop
-returns-2 c = search needs
+returns-3 : tie.Need-returns-3 Inv-loop μ-loop
+returns-3 c = search needs
 
 pub read-journal-spec : {M : Type 1} → statement M
 read-journal-spec =
@@ -61,7 +67,9 @@ read-journal-spec =
     array-share-prefix-part
     slice-aggregate-feed
     feed-requires
+    has-stopped-requires
+    returns-2
     sub-left
     loop-less
     loop-again
-    returns-2)
+    returns-3)
