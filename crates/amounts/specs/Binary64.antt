@@ -1,7 +1,7 @@
 -- Arithmetic of f64, in the notation of the formulas: each operation is rounded once (document 01, "Vapour losses").
 use Prim.Native.Nat.{ℕ}
-use mathlib.Core.Bool.{Bool, true, false, _&&_}
-use lib.Ieee.{Float, nan, inf, fin, binary64, ofBits, round, add, mul, div, le}
+use mathlib.Core.Bool.{Bool, true, false}
+use lib.Ieee.{Float, nan, inf, fin, binary64, ofBits, round, add, mul, div}
 
 -- "decimals are the nearest f64": the f64 nearest to numerator / denominator
 abbrev pub decimal : ℕ → ℕ → Float

@@ -3,7 +3,7 @@ use Prim.Native.Nat.{ℕ}
 use mathlib.Core.Bool.{Bool, true, false}
 use mathlib.Core.List.{List, [], _∷_}
 use lib.Dec.{eqb}
-use lib.Ieee.{Float, round}
+use lib.Ieee.{Float}
 use Rattle.amounts.specs.Binary64.{decimal}
 use Rattle.amounts.specs.Decline.{Answer, taken, declined, noRow}
 use Rattle.amounts.specs.declared.coefficient.CoefficientRow.{CoefficientRow}

@@ -1,12 +1,11 @@
 -- Vapour losses (document 01, "Vapour losses"): "operations are f64, each rounded once, in the order bracketed".
 use Prim.Native.Nat.{ℕ, _^_}
-use mathlib.Core.Bool.{Bool}
-use mathlib.Core.List.{[], _∷_}
+use mathlib.Core.List.{List, [], _∷_}
 use lib.Dec.{leb}
 use lib.Ieee.{Float, le}
 use Rattle.amounts.specs.Binary64.{decimal, whole, _⊗_, _⊘_, _⊕_}
 use Rattle.amounts.specs.Coefficient.{rowOf}
-use Rattle.amounts.specs.Decline.{Answer, taken, declined, check, checked, onTaken, layout, excess}
+use Rattle.amounts.specs.Decline.{Answer, taken, declined, Check, check, checked, onTaken, layout, excess}
 use Rattle.amounts.specs.Form.{formAt, formChecks}
 use Rattle.amounts.specs.Whole.{wholePart}
 use Rattle.amounts.specs.declared.coefficient.CoefficientRow.{CoefficientRow}
@@ -49,11 +48,15 @@ unfoldable pub lossOf : LossForm → Answer CoefficientRow → Answer ℕ
 unfolding weighedOf
 lossOf form found = onTaken (kgOf form found) weighedOf
 
--- "declines a form .. or other whole number outside this paper's limits by 6; a loss is then declined by 7, 8 and 9 in that order"
+-- "declines a form .. or other whole number outside this paper's limits by 6; a loss is then declined by 7 .."
+abbrev pub vapourChecks : ℕ → ℕ → Float → Float → Float → Float → List Check
+vapourChecks form number w u p q = check (leb 1 number) layout ∷ formChecks form w u p q
+
+-- ".. 8 and 9 in that order"
 unfoldable pub vapourOf : ℕ → ℕ → Float → Float → Float → Float → Answer ℕ
 unfolding checked
 vapourOf form number w u p q =
-    onTaken (checked (check (leb 1 number) layout ∷ formChecks form w u p q) (formAt form w u p q)) (λ f. lossOf f (rowOf number))
+    onTaken (checked (vapourChecks form number w u p q) (formAt form w u p q)) (λ f. lossOf f (rowOf number))
 
 -- what each case of the code's answers stands for
 abbrev pub kgAnswer : Kg → Answer Float

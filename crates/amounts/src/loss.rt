@@ -23,26 +23,26 @@ pub enum Loss {
     Declined(Decline),
 }
 
-pub fn floating_roof_kg(row: CoefficientRow, w: f64, u: f64, p: f64) -> f64
+fn floating_roof_kg(row: CoefficientRow, w: f64, u: f64, p: f64) -> f64
     ensures { λ r. ⌜ r ≡ floatingRoofKg row w u p ⌝ }
 {
     ((((row.k * (4.0 / w)) * row.m) / 22.4) * (u / 100.0)) * p
 }
 
-pub fn fixed_roof_kg(row: CoefficientRow, w: f64, u: f64, p: f64, q: f64) -> f64
+fn fixed_roof_kg(row: CoefficientRow, w: f64, u: f64, p: f64, q: f64) -> f64
     ensures { λ r. ⌜ r ≡ fixedRoofKg row w u p q ⌝ }
 {
     (((0.041 * row.m) * w) * (u / p)) * q
 }
 
-pub fn station_kg(w: f64, u: f64, p: f64, q: f64) -> f64
+fn station_kg(w: f64, u: f64, p: f64, q: f64) -> f64
     ensures { λ r. ⌜ r ≡ stationKg w u p q ⌝ }
 {
     (w * u) + (p * q)
 }
 
 // The loss of a form in kg, over the row that was found for its substance.
-pub fn loss_kg(form: LossForm, found: Found) -> Kg
+fn loss_kg(form: LossForm, found: Found) -> Kg
     ensures { λ r. ⌜ kgAnswer r ≡ kgOf form (coefficients.answer found) ⌝ }
 {
     match form {
@@ -77,7 +77,7 @@ pub fn loss_kg(form: LossForm, found: Found) -> Kg
 }
 
 // A loss in kg as micrograms.
-pub fn weigh(kg: f64) -> Loss
+fn weigh(kg: f64) -> Loss
     ensures { λ r. ⌜ answer r ≡ weighedOf kg ⌝ }
 {
     if kg <= 2000000.0 {
@@ -87,7 +87,7 @@ pub fn weigh(kg: f64) -> Loss
 }
 
 // The loss of a form in micrograms, over the row that was found for its substance.
-pub fn loss_of(form: LossForm, found: Found) -> Loss
+fn loss_of(form: LossForm, found: Found) -> Loss
     ensures { λ r. ⌜ answer r ≡ lossOf form (coefficients.answer found) ⌝ }
 {
     match loss_kg(form, found) {
@@ -106,6 +106,13 @@ fn row_for(form: LossForm, number: u16) -> Found
     coefficient::row_of(number)
 }
 
+// The loss of a form that was read, by the management number of its substance.
+pub fn loss_by(form: LossForm, number: u16) -> Loss
+    ensures { λ r. ⌜ answer r ≡ lossOf form (coefficients.rowOf number) ⌝ }
+{
+    loss_of(form, row_for(form, number))
+}
+
 // The loss called alone: a form's number, a management number and four bit patterns.
 pub fn vapour_loss(form: u8, number: u16, w: u64, u: u64, p: u64, q: u64) -> Loss
     ensures { λ r. ⌜ answer r ≡ vapourOf form number (valueOf w) (valueOf u) (valueOf p) (valueOf q) ⌝ }
@@ -114,7 +121,7 @@ pub fn vapour_loss(form: u8, number: u16, w: u64, u: u64, p: u64, q: u64) -> Los
         return Loss::Declined(decline::LAYOUT);
     }
     match form::read_form(form, w, u, p, q) {
-        FormRead::Form(f) => loss_of(f, row_for(f, number)),
+        FormRead::Form(f) => loss_by(f, number),
         FormRead::Declined(d) => Loss::Declined(d),
     }
 }

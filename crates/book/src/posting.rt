@@ -13,7 +13,6 @@ use crate::ledger;
 use crate::ledger::HELD;
 use crate::posts;
 use crate::site::Book;
-use amounts::coefficient;
 use amounts::decline;
 use amounts::decline::Decline;
 use amounts::form;
@@ -47,7 +46,7 @@ fn loss_for(numbers: &[u16; 8], p: Post, x: Inputs) -> Loss
         return Loss::Micrograms(0);
     }
     let number = numbers[p.substance as usize];
-    loss::loss_of(form::form_at(p.material, x), coefficient::row_of(number))
+    loss::loss_by(form::form_at(p.material, x), number)
 }
 
 // The micrograms that a post brings or moves, its loss being known.

@@ -36,7 +36,7 @@ use Rattle.book.proofs.posts.Laws.{post-step, Many, many-taken, posts-count, po
 use Rattle.book.proofs.setup.Taken.{set-up-taken}
 use Rattle.book.proofs.stage.Taken.{described-taken}
 use Rattle.journal.specs.Block.{kindOf, countOf, bodyOf, frameChecks, byKind, blockOn}
-use Rattle.journal.specs.Demand.{Call, post, block, answerTo, after, run, keep, accepted, postsIn, postsOf, blocksIn, blocksOf, countedOf, sumOver, Balanced, Demand3}
+use Rattle.journal.specs.Demand.{Call, post, block, answerTo, after, run, keep, accepted, postsIn, postsOf, blocksIn, blocksOf, countedOf, sumOver, Balanced}
 
 -- ---- an accepted block
 

@@ -5,7 +5,7 @@ use mathlib.Core.List.{List, [], _∷_}
 use Prim.Native.Nat.{ℕ, _+_, _-_, _≤_, _<_}
 use native.Mathlib.Decide.{ℕ-discrete, decLe}
 use native.Mathlib.Omega.{arith}
-use borrow.Author.Tests.{eq-eqb, ne-eqb, le-leb, lt-leb, lt-ltb, ltb-true}
+use borrow.Author.Tests.{eq-eqb, ne-eqb, le-leb, lt-leb, ltb-true}
 use lib.Dec.{eqb, ltb}
 use lib.ListN.{getD}
 use Rattle.amounts.specs.Decline.{taken, check, checked, valueOr, unknown}
@@ -26,7 +26,7 @@ use Rattle.book.specs.declared.report.Line.{Line}
 use Rattle.book.specs.declared.report.Report.{Report}
 use Rattle.book.specs.declared.site.Book.{Book}
 use Rattle.book.proofs.Sums.{sum-same}
-use Rattle.journal.specs.Block.{countOf, bodyOf}
+use Rattle.journal.specs.Block.{bodyOf}
 use Rattle.journal.specs.Demand as demand
 use Rattle.journal.specs.Demand.{Call, run, accepted, postsOf, blocksOf, setUpOf, substancesOf, countedOf, sumOver, Balanced}
 use Rattle.journal.specs.Weighing.{numbersOf, classOf, waterTo, residueTo, ratesFor, stocks, opening, bought, issued, store, issues, moves, under, formed, handled, came, left, remains, closes, heldAt, toGas, toWater, gasTotal, waterTotal, gasSplit, waterSplit, residue, lineOf, told, answerOf, Weighed, ReportByPosts}

@@ -1,20 +1,10 @@
 -- Going through a table of checks. Assumes nothing.
 use mathlib.Core.Path.{_≡_, refl}
 use mathlib.Core.Bool.{Bool, true, false}
-use mathlib.Core.List.{List, [], _∷_}
+use mathlib.Core.List.{[], _∷_}
 use Prim.Native.Nat.{ℕ}
 use native.Mathlib.Omega.{arith}
-use Rattle.amounts.specs.Decline.{Answer, Check, taken, declined, check, checked, onTaken}
-
--- a check that passes is left behind
-pub passes : {A : Type 0} (t : Bool) (n : ℕ) (rows : List Check) (a : A) → t ≡ true → checked (check t n ∷ rows) a ≡ checked rows a
-unfolding checked
-passes t n rows a e = rw e
-
--- a check that fails answers
-pub fails : {A : Type 0} (t : Bool) (n : ℕ) (rows : List Check) (a : A) → t ≡ false → checked (check t n ∷ rows) a ≡ declined n
-unfolding checked
-fails t n rows a e = rw e
+use Rattle.amounts.specs.Decline.{Answer, taken, declined, check, checked, onTaken}
 
 -- ---- what the answer of a table of one check tells
 

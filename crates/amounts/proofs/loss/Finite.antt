@@ -62,7 +62,7 @@ ordered a b =
     back false false (inl h) = h
     back false false (inr h) = h
 
-at-most : (a b : ℕ) → T (ltb a b || (eqb a b && true)) → a ≤ b
+pub at-most : (a b : ℕ) → T (ltb a b || (eqb a b && true)) → a ≤ b
 at-most a b t = leb→le a b (subst T (ordered a b) t)
 
 -- ---- values by their fractions

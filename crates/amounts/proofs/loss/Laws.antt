@@ -1,32 +1,23 @@
 -- A loss that is taken is at most 2×10^15 micrograms, after its rounding. Assumes nothing.
 use mathlib.Core.Path.{_≡_, refl, sym, ap, _∙_, subst}
-use mathlib.Core.Logic.{_⊎_, inl, inr}
-use mathlib.Core.Bool.{Bool, true, false, _&&_, _||_, cond}
-use mathlib.Core.List.{[], _∷_}
+use mathlib.Core.Bool.{Bool, true, false, cond}
 use Prim.Native.Nat.{ℕ, zero, suc, _+_, _-_, _*_, _/_, _^_, _≤_, _<_, min, zero-le}
-use native.Mathlib.Nat.{le-of-lt, le-of-eq, le-trans, div-le-of-le-mul, mul-pos}
+use native.Mathlib.Nat.{le-of-eq, le-trans, div-le-of-le-mul, mul-pos}
 use native.Mathlib.Omega.{arith}
-use lib.Dec.{T, eqb, ltb, leb, ltb→lt, eqb→eq, lit<}
+use lib.Dec.{T, ltb, lit<}
 use lib.Ieee.{Float, Format, nan, inf, fin, binary64, up, down, low, emax, prec, odd, units, round, mul, le, lt, eq, toUnsigned}
 use lib.Ieee.Fits.{round-is, down-pos}
 use lib.Ieee.Order.{round-mono}
 use Rattle.amounts.specs.Binary64.{whole}
-use Rattle.amounts.specs.Decline.{Answer, taken, declined, check, checked, onTaken, layout, excess}
+use Rattle.amounts.specs.Decline.{Answer, taken, checked, excess}
 use Rattle.amounts.specs.Coefficient.{rowOf}
-use Rattle.amounts.specs.Form.{formAt, formChecks}
-use Rattle.amounts.specs.Loss.{microgramsOf, kgOf, weighedOf, lossOf, vapourOf}
+use Rattle.amounts.specs.Form.{formAt}
+use Rattle.amounts.specs.Loss.{microgramsOf, kgOf, weighedOf, lossOf, vapourChecks, vapourOf}
 use Rattle.amounts.specs.Whole.{wholePart}
 use Rattle.amounts.specs.declared.coefficient.CoefficientRow.{CoefficientRow}
 use Rattle.amounts.specs.declared.form.LossForm.{LossForm}
 use Rattle.amounts.proofs.decline.Laws.{one-taken, was-taken}
-
-either : (p q : Bool) → T (p || (q && true)) → T p ⊎ T q
-either true q h = inl tt
-either false true h = inr tt
-either false false h = absurd h
-
-le-from : (a b : ℕ) → T (ltb a b || (eqb a b && true)) → a ≤ b
-le-from a b h = elim (either (ltb a b) (eqb a b) h) [ inl u ↦ le-of-lt (ltb→lt a b u) | inr u ↦ le-of-eq (eqb→eq a b u) ]
+use Rattle.amounts.proofs.loss.Finite.{at-most}
 
 -- ---- what is negative has no whole part
 
@@ -63,7 +54,7 @@ whole-le (inf true) h = zero-le
 whole-le (inf false) h = absurd h
 whole-le (fin true m e) h = zero-le
 whole-le (fin false m e) h =
-    small (m * up e / down e) (2 ^ 64 - 1) (div-le-of-le-mul (down e) (tidy (m * up e) (down e) (le-from (m * up e * 1) (2000000000000000 * down e) h)))
+    small (m * up e / down e) (2 ^ 64 - 1) (div-le-of-le-mul (down e) (tidy (m * up e) (down e) (at-most (m * up e * 1) (2000000000000000 * down e) h)))
 
 scale : (n d : ℕ) → n * 1 ≤ 2000000 * d → n * 1000000000 * 1 ≤ 2000000000000000 * (d * 1)
 scale n d h = omega arith
@@ -77,7 +68,7 @@ micrograms-bounded (fin true m e) h = le-trans (le-of-eq (round-negative binary6
 micrograms-bounded (fin false m e) h =
     whole-le (round binary64 false (m * up e * 1000000000) (down e * 1))
     (round-mono binary64 (m * up e * 1000000000) (down e * 1) 2000000000000000 1 (mul-pos (down-pos e) (lit< tt)) (lit< tt)
-    (scale (m * up e) (down e) (le-from (m * up e * 1) (2000000 * down e) h)))
+    (scale (m * up e) (down e) (at-most (m * up e * 1) (2000000 * down e) h)))
 
 pub weighed-bounded : (kg : Float) (n : ℕ) → weighedOf kg ≡ taken n → n ≤ 2000000000000000
 unfolding weighedOf
@@ -93,4 +84,4 @@ loss-bounded form found n e = let z = was-taken (kgOf form found) weighedOf n e 
 -- a loss called alone
 pub vapour-bounded : (form number : ℕ) (w u p q : Float) (n : ℕ) → vapourOf form number w u p q ≡ taken n → n ≤ 2000000000000000
 unfolding vapourOf
-vapour-bounded form number w u p q n e = let z = was-taken (checked (check (leb 1 number) layout ∷ formChecks form w u p q) (formAt form w u p q)) (λ f. lossOf f (rowOf number)) n e in loss-bounded (z .0) (rowOf number) n (z .2)
+vapour-bounded form number w u p q n e = let z = was-taken (checked (vapourChecks form number w u p q) (formAt form w u p q)) (λ f. lossOf f (rowOf number)) n e in loss-bounded (z .0) (rowOf number) n (z .2)

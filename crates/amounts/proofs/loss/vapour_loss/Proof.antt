@@ -2,7 +2,6 @@ use borrow.Author.Tests.{le-leb, lt-leb}
 use borrow.Author.Needs.{needs}
 use Rattle.amounts.specs.Decline.{taken}
 use Rattle.amounts.specs.Form.{formOf}
-use Rattle.amounts.specs.Form as forms
 use Rattle.amounts.specs.Loss.{vapourOf}
 use Rattle.amounts.proofs.loss.vapour_loss.Statement.{statement}
 use Rattle.amounts.proofs.loss.vapour_loss.Tie as tie
@@ -17,18 +16,17 @@ read-form-requires c κs = search needs
 enum-known-f : tie.Need-enum-known-f
 enum-known-f c = search needs
 
-row-for-requires : tie.Need-row-for-requires
-row-for-requires c κs = search needs
-
-loss-of-requires : tie.Need-loss-of-requires
-loss-of-requires c κs = search needs
+loss-by-requires : tie.Need-loss-by-requires
+loss-by-requires c κs = search needs
 
 enum-known-d : tie.Need-enum-known-d
 enum-known-d c = search needs
 
 returns-2 : tie.Need-returns-2
 unfolding vapourOf formOf
-returns-2 c = let k = c .before .before .before .before .before in rw (le-leb 1 (k .before .before .args .number) (k .before .if1 .left), ← k .read-form .ensures, c .before .before .before .f .given .1, ← c .before .row-for .ensures) (c .loss-of .ensures)
+returns-2 c =
+    let k = c .before .before .before .before in
+    rw (le-leb 1 (k .before .before .args .number) (k .before .if1 .left), ← k .read-form .ensures, c .before .before .f .given .1) (c .loss-by .ensures)
 
 returns-3 : tie.Need-returns-3
 unfolding vapourOf formOf
@@ -41,8 +39,7 @@ vapour-loss-spec =
     returns
     read-form-requires
     enum-known-f
-    row-for-requires
-    loss-of-requires
+    loss-by-requires
     enum-known-d
     returns-2
     returns-3)
