@@ -1,3 +1,4 @@
+pub mod Amount
 pub mod Ledger
 pub mod Site
 pub mod Answer

@@ -8,9 +8,10 @@ use lib.ListN.{getD, set}
 use Rattle.amounts.specs.Decline as number
 use Rattle.amounts.specs.Decline.{Answer, taken, declined, Check, check, checked, onTaken, isTaken}
 use Rattle.layout.specs.Outline.{mayPost}
-use Rattle.layout.specs.Post.{postAt, layoutFits, isClose, floatsFit, kgFor, lossFor, amountOf}
+use Rattle.layout.specs.Post.{postAt, layoutFits, isClose, floatsFit}
 use Rattle.layout.specs.declared.outline.Outline.{Outline}
 use Rattle.layout.specs.declared.post.Post.{Post}
+use Rattle.book.specs.Amount.{kgFor, lossFor, amountOf}
 use Rattle.book.specs.Ledger.{held, accountOf, cellOf, cell, moved, raised, brings, settled}
 use Rattle.book.specs.declared.posting.Reading.{Reading}
 use Rattle.book.specs.declared.posting.ReadingAnswer.{ReadingAnswer}

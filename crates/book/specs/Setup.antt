@@ -1,4 +1,4 @@
--- Kind 1: the substances and the materials (document 01, "Journal blocks"). The body is the block's bytes 8 to 507.
+-- Kind 1 on a book (document 01, "Journal blocks"): the body's set-up in place of none, and one block more.
 use Prim.Native.Nat.{ℕ, _+_}
 use mathlib.Core.List.{List}
 use Rattle.amounts.specs.Decline.{Answer, checked}

@@ -1,4 +1,4 @@
--- Kind 2: a stage (document 01, "Journal blocks"). The body is the block's bytes 8 to 507.
+-- Kind 2 on a book (document 01, "Journal blocks"): the set-up with its next stage described, and one block more.
 use Prim.Native.Nat.{ℕ, _+_, _*_}
 use mathlib.Core.List.{List}
 use lib.ListN.{getD, drop, set}

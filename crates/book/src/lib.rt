@@ -1,4 +1,5 @@
 // The book of one site for one year: its set-up, its posts and its reports.
+pub mod amount;
 pub mod answer;
 pub mod ledger;
 pub mod posting;

@@ -2,12 +2,11 @@
 ghost use mathlib.Core.Path.{_≡_};
 ghost use Prim.Native.Nat.{ℕ, _*_, _^_, _≤_, _<_};
 ghost use lib.ListN.{length, getD};
-ghost use Rattle.amounts.specs.Loss as losses;
-ghost use Rattle.layout.specs.Post.{lossOver, amountWith};
 ghost use Rattle.book.specs.Answer.{outcome};
 ghost use Rattle.book.specs.Ledger.{held, cell, total};
 ghost use Rattle.book.specs.Posting.{storeAfter, sumsAfter, handledAfter, hasRoom, isThere, postOn, readOf, readAnswer, admitted, Entry};
 ghost use Rattle.book.specs.Site.{Sound};
+use crate::amount;
 use crate::answer::Answered;
 use crate::ledger;
 use crate::ledger::HELD;
@@ -15,10 +14,7 @@ use crate::posts;
 use crate::site::Book;
 use amounts::decline;
 use amounts::decline::Decline;
-use amounts::form;
-use amounts::form::Inputs;
 use amounts::form::InputsRead;
-use amounts::loss;
 use amounts::loss::Loss;
 use layout::outline;
 use layout::outline::Outline;
@@ -37,32 +33,6 @@ pub enum ReadingAnswer {
     Declined(Decline),
 }
 
-// The loss of a vapour post whose floats were read, and none of another post.
-fn loss_for(numbers: &[u16; 8], p: Post, x: Inputs) -> Loss
-    requires { ⌜ p .substance < 8 ⌝ }
-    ensures { λ r. ⌜ losses.answer r ≡ lossOver (now (numbers .entry)) p x ⌝ }
-{
-    if p.kind != 12 {
-        return Loss::Micrograms(0);
-    }
-    let number = numbers[p.substance as usize];
-    loss::loss_by(form::form_at(p.material, x), number)
-}
-
-// The micrograms that a post brings or moves, its loss being known.
-fn amount(p: Post, loss: u64) -> u64
-    requires { ⌜ p .quantity * p .content < 2 ^ 64 ⌝ }
-    ensures { λ r. ⌜ r ≡ amountWith p loss ⌝ }
-{
-    if p.kind == 12 {
-        return loss;
-    }
-    if p.kind == 4 {
-        return p.quantity;
-    }
-    p.quantity * (p.content as u64)
-}
-
 fn read(o: Outline, numbers: &[u16; 8], closed: bool, s: &[u8]) -> ReadingAnswer
     requires { ⌜ o .substances ≤ 8 ⌝ }
     ensures { λ r. ⌜ readAnswer r ≡ readOf o (now (numbers .entry)) closed (now (s .entry)) ⌝ }
@@ -79,10 +49,10 @@ fn read(o: Outline, numbers: &[u16; 8], closed: bool, s: &[u8]) -> ReadingAnswer
     let InputsRead::Values(x) = post::read_floats(p) else {
         return ReadingAnswer::Declined(decline::RANGE);
     };
-    match loss_for(numbers, p, x) {
+    match amount::loss_for(numbers, p, x) {
         Loss::Micrograms(loss) => ReadingAnswer::Read(Reading {
             post: p,
-            amount: amount(p, loss),
+            amount: amount::amount_with(p, loss),
         }),
         Loss::Declined(d) => ReadingAnswer::Declined(d),
     }

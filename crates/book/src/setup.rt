@@ -1,4 +1,4 @@
-// Kind 1: the substances and the materials.
+// Kind 1 on a book: it takes the substances and the materials of the body.
 ghost use mathlib.Core.Path.{_≡_};
 ghost use Rattle.book.specs.Answer.{outcome};
 ghost use Rattle.book.specs.Setup.{setUpOn};

@@ -1,4 +1,4 @@
-// Kind 2: a stage, its destinations and each substance's side and rates.
+// Kind 2 on a book: its next stage is described, with destinations, sides and rates.
 ghost use mathlib.Core.Path.{_≡_};
 ghost use Prim.Native.Nat.{_+_, _*_, _≤_};
 ghost use lib.ListN.{length};

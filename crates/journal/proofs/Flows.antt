@@ -10,9 +10,9 @@ use lib.Dec.{eqb}
 use lib.ListN.{length, set}
 use lib.Seq.{getD-set-same, getD-set-other}
 use Rattle.layout.specs.Each.{sumTo}
-use Rattle.layout.specs.Post.{amountOf}
 use Rattle.layout.specs.declared.post.Post.{Post}
 use Rattle.layout.proofs.Each.{sum-none, put-other}
+use Rattle.book.specs.Amount.{amountOf}
 use Rattle.book.specs.Ledger.{held, accountOf, cellOf, cell, moved, raised, brings}
 use Rattle.book.specs.Posting.{received, issued, formed, transferred, applied, Applies}
 use Rattle.book.specs.Site.{Sound}

@@ -11,10 +11,11 @@ use lib.ListN.{length, length-append}
 use Rattle.amounts.specs.Decline.{taken}
 use Rattle.amounts.proofs.decline.Laws.{was-taken}
 use Rattle.layout.specs.Each.{sumTo, listTo}
-use Rattle.layout.specs.Post.{postAt, isClose, amountOf}
+use Rattle.layout.specs.Post.{postAt, isClose}
 use Rattle.layout.specs.declared.post.Post.{Post}
 use Rattle.layout.specs.declared.setup.Setup.{Setup}
 use Rattle.layout.proofs.Each.{sum-none}
+use Rattle.book.specs.Amount.{amountOf}
 use Rattle.book.specs.Ledger.{held, cell, closesTo}
 use Rattle.book.specs.Posting.{closedBook, applied, postOn, Applies}
 use Rattle.book.specs.Posts.{takenTo}

@@ -11,11 +11,12 @@ use Rattle.amounts.specs.Threshold.{dueOf}
 use Rattle.amounts.specs.Treatment.{partsOf}
 use Rattle.amounts.specs.declared.treatment.Parts.{Parts}
 use Rattle.layout.specs.Each.{sumTo}
-use Rattle.layout.specs.Post.{postAt, isClose, amountOf}
+use Rattle.layout.specs.Post.{postAt, isClose}
 use Rattle.layout.specs.Setup.{numbersIn, classesIn}
 use Rattle.layout.specs.Stage.{rateRow}
 use Rattle.layout.specs.declared.post.Post.{Post}
 use Rattle.layout.specs.declared.setup.Rates.{Rates}
+use Rattle.book.specs.Amount.{amountOf}
 use Rattle.book.specs.Entered.{forms}
 use Rattle.book.specs.Ledger.{brings}
 use Rattle.book.specs.Report.{atOne, atTwo, filingOf, reportOf}

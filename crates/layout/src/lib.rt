@@ -1,4 +1,4 @@
-// What the bytes of a set-up block, a stage and a post say, and their turns and limits, without a book.
+// What the bodies of kind 1 and kind 2 blocks and posts say, and their turns and limits, without a book.
 pub mod bytes;
 pub mod outline;
 pub mod post;

@@ -1,4 +1,4 @@
-// Kind 1: the substances and the materials.
+// Kind 1: what a body says of the substances and the materials, and its limits.
 ghost use mathlib.Core.Path.{_≡_};
 ghost use Prim.Native.Nat.{_*_, _≤_};
 ghost use lib.ListN.{length};
@@ -89,7 +89,7 @@ fn contents_in(body: &[u8]) -> [u32; 96]
     out
 }
 
-// The first n numbers of 16 bits from a place on are each above the one before, and the first is above 0.
+// The first n numbers of 16 bits are each above the one before, and the first is above 0.
 fn is_rising(s: &[u8], n: usize) -> bool
     requires { ⌜ n * 2 ≤ length (now s) ⌝ }
     ensures { λ r. ⌜ r ≡ rising n (now (s .entry)) ⌝ }

@@ -1,4 +1,4 @@
-// Kind 2: a stage, its destinations and each substance's side and rates.
+// Kind 2: what a body says of a stage's destinations and of each substance's side and rates, and its limits.
 ghost use mathlib.Core.Path.{_≡_};
 ghost use Prim.Native.Nat.{_*_, _≤_};
 ghost use lib.ListN.{length, drop};

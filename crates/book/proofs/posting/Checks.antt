@@ -10,15 +10,17 @@ use Rattle.amounts.specs.Decline.{Answer, taken, declined, Check, check, checke
 use Rattle.amounts.specs.declared.form.Inputs.{Inputs}
 use Rattle.amounts.proofs.decline.Laws.{was-taken}
 use Rattle.layout.specs.Outline.{mayPost}
-use Rattle.layout.specs.Post.{postAt, layoutFits, floatsFit, lossFor, lossOver, floatsOf, amountWith, amountOf}
+use Rattle.layout.specs.Post.{postAt, layoutFits, floatsFit}
 use Rattle.layout.specs.declared.outline.Outline.{Outline}
 use Rattle.layout.specs.declared.post.Post.{Post}
-use Rattle.layout.proofs.post.Laws.{Laid, laid, loss-refused, loss-weighed, amount-small, amount-formed}
+use Rattle.layout.proofs.post.Laws.{Laid, laid}
+use Rattle.book.specs.Amount.{lossFor, lossOver, floatsOf, amountWith, amountOf}
 use Rattle.book.specs.Ledger.{held, cell}
 use Rattle.book.specs.Posting.{applied, readChecks, hasRoom, isThere, bookChecks, postOn, readOf, admitted, Applies}
 use Rattle.book.specs.Site.{Sound}
 use Rattle.book.specs.declared.posting.Reading.{Reading}
 use Rattle.book.specs.declared.site.Book.{Book}
+use Rattle.book.proofs.amount.Laws.{loss-refused, loss-weighed, amount-small, amount-formed}
 
 -- ---- tables
 

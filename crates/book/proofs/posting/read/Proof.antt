@@ -7,9 +7,10 @@ use Rattle.amounts.specs.Loss.{answer}
 use Rattle.amounts.specs.declared.form.Inputs.{Inputs}
 use Rattle.amounts.proofs.form.Laws.{read, refused}
 use Rattle.layout.specs.Outline.{mayPost}
-use Rattle.layout.specs.Post.{postAt, layoutFits, floatsFit, floatsOf}
+use Rattle.layout.specs.Post.{postAt, layoutFits, floatsFit}
 use Rattle.layout.specs.declared.post.Post.{Post}
 use Rattle.layout.proofs.post.Laws.{Bounds, post-read, post-refused, read-bounds}
+use Rattle.book.specs.Amount.{floatsOf}
 use Rattle.book.proofs.posting.Checks.{out-of-turn, after-close, out-of-layout, out-of-range, no-loss, loss-known}
 use denote.Ref.{now}
 use Rattle.book.proofs.posting.read.Statement.{statement}
@@ -86,8 +87,8 @@ loss-for-requires c κs =
 enum-known-loss : tie.Need-enum-known-loss
 enum-known-loss c = search needs
 
-amount-requires : tie.Need-amount-requires
-amount-requires c κs =
+amount-with-requires : tie.Need-amount-with-requires
+amount-with-requires c κs =
     omega (arith, bounds-at (c .before .before .before .before .before .before .before .before) .product)
 
 enum-known-d : tie.Need-enum-known-d
@@ -98,7 +99,7 @@ returns-5 c =
     let x = c .before .before .before .before .before in
     let p = x .before .before .before .before in
     let k = p .before .before .before .before in
-    rw (c .amount .ensures)
+    rw (c .amount-with .ensures)
     (loss-known _ _ _ _ (in-turn (k .before)) (k .if2 .left) _ (post-at p) _ (floats-at x) _
     (sym (ap answer (c .before .before .loss .given .1)) ∙ c .before .before .before .before .loss-for .ensures))
 
@@ -127,7 +128,7 @@ read-spec =
     returns-4
     loss-for-requires
     enum-known-loss
-    amount-requires
+    amount-with-requires
     enum-known-d
     returns-5
     returns-6)

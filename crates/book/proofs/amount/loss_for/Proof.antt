@@ -1,7 +1,7 @@
 use borrow.Author.Tests.{eq-eqb, ne-eqb}
 use borrow.Author.Needs.{needs}
-use Rattle.book.proofs.posting.loss_for.Statement.{statement}
-use Rattle.book.proofs.posting.loss_for.Tie as tie
+use Rattle.book.proofs.amount.loss_for.Statement.{statement}
+use Rattle.book.proofs.amount.loss_for.Tie as tie
 
 returns : tie.Need-returns
 returns c = rw (ne-eqb (c .before .before .args .p .kind) 12 (c .if1 .taken))
