@@ -12,7 +12,7 @@ use Rattle.amounts.specs.declared.treatment.Parts.{Parts}
 
 -- what is asked of the definitions, and what they answer
 pub data Figure : Type 0 where
-  kilograms : ℕ → Figure
+  filed : ℕ → Figure
   due : Answer Bool → Figure
   counted : Answer ℕ → Figure
   split : Answer Parts → Figure
@@ -24,17 +24,17 @@ pub data Asked : Type 0 where
   splitting : ℕ → ℕ → ℕ → Asked
 
 abbrev pub answered : Asked → Figure
-answered (filing micrograms) = kilograms (filedOf micrograms)
+answered (filing micrograms) = filed (filedOf micrograms)
 answered (threshold class handled) = due (dueOf class handled)
 answered (counting class ppm) = counted (countedOf class ppm)
 answered (splitting a r d) = split (splitOf a r d)
 
 -- kg and tenths of a kg in micrograms
 abbrev pub kg : ℕ → Figure
-kg n = kilograms (n * 10 ^ 9)
+kg n = filed (n * 10 ^ 9)
 
 abbrev pub tenths : ℕ → Figure
-tenths n = kilograms (n * 10 ^ 8)
+tenths n = filed (n * 10 ^ 8)
 
 abbrev pub parts : ℕ → ℕ → ℕ → Figure
 parts a b c = split (taken (record { released = a; destroyed = b; residue = c }))
