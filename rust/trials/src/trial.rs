@@ -6,6 +6,8 @@ use std::fs;
 use std::io::{self, Write as _};
 use std::path::{Path, PathBuf};
 
+use prtr::Refused;
+
 use crate::layout::{Block, BLOCK};
 use crate::rng::Rng;
 
@@ -174,6 +176,14 @@ pub fn text_of(journal: &[u8]) -> Result<Vec<u8>, String> {
         return Err(format!("bytes altered behind the {length} of the text"));
     }
     Ok(out[..length].to_vec())
+}
+
+/// What the safe function answers, as the text that it stands for.
+pub fn safe_text(journal: &[u8]) -> Vec<u8> {
+    let text = prtr::filing(journal).unwrap_or_else(|Refused { block, decline }| {
+        format!("refused {block} {}\n", decline.number())
+    });
+    text.into_bytes()
 }
 
 /// The place and number of a line `refused PLACE NUMBER`.

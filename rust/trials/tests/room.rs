@@ -5,7 +5,7 @@ use trials::layout::{Post, MOST_POSTS};
 use trials::ledger::{MOST_GRAMS, MOST_MICROGRAMS};
 use trials::rng::Rng;
 use trials::site::{Pair, Site, Stage};
-use trials::trial::Trial;
+use trials::trial::{safe_text, Trial};
 use trials::year::{tens, Year};
 
 #[test]
@@ -34,15 +34,15 @@ fn enough_room_holds_the_text_and_the_rest_stays() {
             assert_eq!(out[..expected.len()], expected);
             assert!(out[expected.len()..].iter().all(|&byte| byte == 0xc3));
         }
-        assert_eq!(prtr::filing(journal).as_bytes(), expected);
+        assert_eq!(safe_text(journal), expected);
     }
 }
 
 #[test]
 fn no_bytes_print_the_title() {
     assert_eq!(
-        prtr::filing(&[]),
-        "substance handled due air water soil land sewer offsite\n"
+        prtr::filing(&[]).as_deref(),
+        Ok("substance handled due air water soil land sewer offsite\n")
     );
 }
 
