@@ -3,10 +3,12 @@
 //! `PRTR_SEED` sets the seed and `PRTR_CASES` multiplies the number of cases.
 
 pub mod aim;
+pub mod case;
 pub mod damage;
 pub mod floats;
 pub mod layout;
 pub mod ledger;
+pub mod limit;
 pub mod rng;
 pub mod site;
 pub mod trial;
