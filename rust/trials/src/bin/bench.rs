@@ -3,11 +3,10 @@
 //! Both are timed in turn in every round, and a round's time is compared with the same round's. The lent bytes are
 //! not cleared between calls. Run it with `cargo run --release -p trials --bin bench`.
 
-use std::env;
 use std::fs;
 use std::hint::black_box;
 use std::io::Write;
-use std::path::{Path, PathBuf};
+use std::path::Path;
 use std::process::{Child, Command, Stdio};
 use std::thread::sleep;
 use std::time::{Duration, Instant};
@@ -15,6 +14,7 @@ use std::time::{Duration, Instant};
 use prtr::Class;
 use trials::floats::{within, RANGES};
 use trials::layout::{Block, Post, BLOCK};
+use trials::program;
 use trials::rng::Rng;
 use trials::site::{Site, ROWS, WHOLE};
 use trials::year::{tens, Year};
@@ -162,12 +162,6 @@ fn bench_losses() {
     }
 }
 
-/// The program: `PRTR_FILING`, or target/bin/filing at the repository's top.
-fn program() -> PathBuf {
-    let usual = Path::new(env!("CARGO_MANIFEST_DIR")).join("../../target/bin/filing");
-    env::var_os("PRTR_FILING").map_or(usual, PathBuf::from)
-}
-
 /// A line of /proc/PID/status, behind its name.
 fn status(child: &Child, name: &str) -> Option<String> {
     let text = fs::read_to_string(format!("/proc/{}/status", child.id())).ok()?;
@@ -233,9 +227,10 @@ fn peaks(program: &Path, journals: &[&[u8]]) -> Option<(u64, u64)> {
 }
 
 fn bench_memory(years: &[Vec<Block>]) {
-    let program = program();
+    let program = program::path("filing");
     if !program.is_file() {
-        println!("\nmemory: there is no program target/bin/filing; `rt check filing` builds it");
+        let program = program.display();
+        println!("\nmemory: there is no program {program}; `rt check filing` builds it");
         return;
     }
     println!("\nmemory of the program filing, most kB before its input ends");
