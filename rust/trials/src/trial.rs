@@ -16,7 +16,7 @@ use crate::rng::Rng;
 const SEED: u64 = 20_260_401;
 /// What the lent bytes hold before a call.
 const FILL: u8 = 0xa5;
-/// The bytes lent beyond the longest text.
+/// The bytes lent beyond the room that is asked for.
 const SPARE: usize = 40;
 
 /// What was given and how it was answered.
