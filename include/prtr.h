@@ -25,7 +25,11 @@
 extern "C" {
 #endif
 
-/* Why a call is declined, in checking order. */
+/*
+ * Why a call is declined, in checking order. The status of a calculation, any
+ * function but prtr_filing, is 0 or one of 6 to 9; 1 to 11 stand in the
+ * "refused" line of prtr_filing; 12 comes from no function here.
+ */
 #define PRTR_NOT_A_BLOCK 1   /* a block isn't 512 bytes or lacks "PRTR" */
 #define PRTR_CHECK_SUM 2     /* a check sum differs */
 #define PRTR_NOT_NEXT 3      /* a block's kind isn't 1 to 3, or its number isn't the next */
@@ -39,7 +43,7 @@ extern "C" {
 #define PRTR_SHORT 11        /* a store or holding is less than what leaves it */
 #define PRTR_NO_SUBSTANCE 12 /* a report names a substance that the book hasn't */
 
-/* The longest text that prtr_filing writes, in bytes. */
+/* The room that prtr_filing asks for, in bytes; no text is longer. */
 #define PRTR_ROOM 1336
 
 /*

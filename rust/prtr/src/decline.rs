@@ -9,7 +9,10 @@ use std::fmt;
 /// use prtr::Decline;
 ///
 /// assert_eq!(Decline::Layout.number(), 6);
-/// assert_eq!(Decline::from_number(11), Some(Decline::Short));
+/// for decline in Decline::ALL {
+///     assert_eq!(Decline::from_number(decline.number()), Some(decline));
+/// }
+/// assert_eq!(Decline::from_number(0), None);
 /// assert_eq!(Decline::from_number(13), None);
 /// ```
 #[derive(Clone, Copy, Debug, PartialEq, Eq, PartialOrd, Ord, Hash)]
@@ -37,9 +40,18 @@ pub enum Decline {
     Full = 10,
     /// A store or holding is less than what leaves it.
     Short = 11,
-    /// A report names a substance that the book hasn't.
+    /// A report names a substance that the book hasn't; no function of this crate answers it.
     NoSubstance = 12,
 }
+
+// `from_number` finds a decline by its place.
+const _: () = {
+    let mut place = 0;
+    while place < Decline::ALL.len() {
+        assert!(Decline::ALL[place].number() as usize == place + 1);
+        place += 1;
+    }
+};
 
 impl Decline {
     /// Every decline, in checking order.
@@ -64,7 +76,6 @@ impl Decline {
     }
 
     /// The decline with this number, or `None` where document 01 has none.
-    #[inline]
     pub fn from_number(number: u8) -> Option<Decline> {
         let place = number.checked_sub(1)?;
         Decline::ALL.get(usize::from(place)).copied()

@@ -38,6 +38,7 @@ pub enum Form {
 
 impl Form {
     /// The form's number, 1 to 3.
+    #[inline]
     pub const fn number(self) -> u8 {
         match self {
             Form::FloatingRoof { .. } => 1,
@@ -47,6 +48,7 @@ impl Form {
     }
 
     /// The floats w, u, p and q of a post, in that order.
+    #[inline]
     pub const fn floats(self) -> [f64; 4] {
         match self {
             Form::FloatingRoof {

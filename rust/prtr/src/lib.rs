@@ -3,19 +3,20 @@
 //! Material is in grams, content in parts per million by mass (ppm), substance in micrograms. The papers' numbers
 //! are whole; a vapour loss is worked out in `f64` and then cut to whole micrograms.
 //!
-//! The functions here answer for every input: what is outside the limits is an [`Err`] with its [`Decline`].
+//! The functions here answer for every input: what is outside the limits is an [`Err`] with its [`Decline`], and a
+//! refused journal one that also says which block. [`Decline::NoSubstance`] comes from none of them.
 //!
 //! ```
 //! use prtr::{Class, Form};
 //!
 //! // Benzene (400) that left through a tank's floating roof, and how it is filed: about 0.2 kg.
 //! let roof = Form::FloatingRoof { diameter: 14.0, content: 0.62, drawn: 36_000.0 };
-//! let lost = prtr::loss(400, roof)?;
+//! let lost = prtr::loss(roof, 400)?;
 //! assert_eq!(lost, 197_887_867);
 //! assert_eq!(prtr::figure(lost), 200_000_000);
 //!
 //! // 1 t handled is filed in class one.
-//! assert!(prtr::due(Class::One, 1_000_000_000_000)?);
+//! assert!(prtr::due(Class::One, 1_000_000_000_000));
 //! # Ok::<(), prtr::Decline>(())
 //! ```
 //!
@@ -25,40 +26,19 @@
 #![deny(unsafe_code)]
 #![warn(missing_docs)]
 
+mod class;
 mod decline;
 mod form;
 pub mod raw;
+mod refused;
 
+pub use class::Class;
 pub use decline::Decline;
 pub use form::Form;
+pub use refused::Refused;
 
-/// The bytes that [`filing_into`] must be lent: those of the longest text of a return.
+/// The bytes that [`filing_into`] must be lent: the room that `prtr_filing` asks for; no text is longer.
 pub const ROOM: usize = 1336;
-
-/// The class of a substance.
-///
-/// Where a function takes a class it takes its number too, which may be any `u8`.
-///
-/// ```
-/// use prtr::{Class, Decline};
-///
-/// assert_eq!(prtr::counted(Class::Two, 1_000), prtr::counted(2u8, 1_000));
-/// assert_eq!(prtr::counted(3u8, 1_000), Err(Decline::Layout));
-/// ```
-#[derive(Clone, Copy, Debug, PartialEq, Eq, Hash)]
-#[repr(u8)]
-pub enum Class {
-    /// Class one.
-    One = 1,
-    /// Specific class one.
-    Two = 2,
-}
-
-impl From<Class> for u8 {
-    fn from(class: Class) -> u8 {
-        class as u8
-    }
-}
 
 /// What treatment makes of a total; the three add up to it.
 #[derive(Clone, Copy, Debug, Default, PartialEq, Eq, Hash)]
@@ -92,7 +72,7 @@ fn declined(number: u8) -> Decline {
 /// A material's content of a substance as it counts: from 10,000 ppm in class one and from
 /// 1,000 ppm in class two as it is, else 0.
 ///
-/// Declines a class other than 1 and 2, and more than 1,000,000 ppm, by [`Decline::Layout`].
+/// Declines more than 1,000,000 ppm by [`Decline::Layout`].
 ///
 /// ```
 /// use prtr::{counted, Class, Decline};
@@ -103,7 +83,7 @@ fn declined(number: u8) -> Decline {
 /// assert_eq!(counted(Class::Two, 1_000_001), Err(Decline::Layout));
 /// ```
 #[inline]
-pub fn counted(class: impl Into<u8>, ppm: u32) -> Result<u32, Decline> {
+pub fn counted(class: Class, ppm: u32) -> Result<u32, Decline> {
     let mut counted = 0;
     let status = raw::counted(class.into(), ppm, &mut counted);
     answer(status, counted)
@@ -179,26 +159,28 @@ pub fn figure(amount: u64) -> u64 {
 
 /// Whether a substance must be filed that was handled to so many micrograms: from 1 t in class one, from 0.5 t in class two.
 ///
-/// Declines a class other than 1 and 2 by [`Decline::Layout`].
-///
 /// ```
-/// use prtr::{due, Class, Decline};
+/// use prtr::{due, Class};
 ///
 /// // F10.
-/// assert_eq!(due(Class::One, 999_999_999_999), Ok(false));
-/// assert_eq!(due(Class::One, 1_000_000_000_000), Ok(true));
-/// assert_eq!(due(Class::Two, 500_000_000_000), Ok(true));
-/// assert_eq!(due(0u8, 0), Err(Decline::Layout));
+/// assert!(!due(Class::One, 999_999_999_999));
+/// assert!(due(Class::One, 1_000_000_000_000));
+/// assert!(!due(Class::Two, 499_999_999_999));
+/// assert!(due(Class::Two, 500_000_000_000));
 /// ```
 #[inline]
-pub fn due(class: impl Into<u8>, handled: u64) -> Result<bool, Decline> {
+pub fn due(class: Class, handled: u64) -> bool {
     let mut due = 0;
     let status = raw::due(class.into(), handled, &mut due);
-    answer(status, due).map(|due| match due {
+    assert!(
+        status == 0,
+        "libprtr.a declined class {class:?} by {status}"
+    );
+    match due {
         0 => false,
         1 => true,
         other => panic!("libprtr.a answered {other} for due, which is neither 0 nor 1"),
-    })
+    }
 }
 
 /// The micrograms of a substance, by its management number, that are lost as vapour.
@@ -212,15 +194,19 @@ pub fn due(class: impl Into<u8>, handled: u64) -> Result<bool, Decline> {
 ///
 /// // Toluene, while a fixed roof tank is filled.
 /// let tank = Form::FixedRoof { volume: 2_000.0, partial: 1_550.0, tank: 98_100.0, share: 1.0 };
-/// assert_eq!(loss(300, tank), Ok(119_326_299_694));
-/// assert_eq!(loss(301, tank), Err(Decline::NoRow));
+/// assert_eq!(loss(tank, 300), Ok(119_326_299_694));
+/// assert_eq!(loss(tank, 301), Err(Decline::NoRow));
 ///
 /// // Benzene at a filling station: 8.8 kg.
 /// let station = Form::Station { received: 1_500.0, filling: 0.0026885, dispensed: 1_420.0, fuelling: 0.0033856 };
-/// assert_eq!(loss(400, station), Ok(8_840_302_000));
+/// assert_eq!(loss(station, 400), Ok(8_840_302_000));
+///
+/// // 2,000 kL at 1,001 kg each: 2,002,000 kg.
+/// let great = Form::Station { received: 2_000.0, filling: 1_001.0, dispensed: 0.0, fuelling: 0.0 };
+/// assert_eq!(loss(great, 400), Err(Decline::LossLimit));
 /// ```
 #[inline]
-pub fn loss(number: u16, form: Form) -> Result<u64, Decline> {
+pub fn loss(form: Form, number: u16) -> Result<u64, Decline> {
     let [w, u, p, q] = form.floats().map(f64::to_bits);
     loss_bits(form.number(), number, w, u, p, q)
 }
@@ -242,9 +228,11 @@ pub fn loss_bits(form: u8, number: u16, w: u64, u: u64, p: u64, q: u64) -> Resul
     answer(status, micrograms)
 }
 
-/// The text of the return that a journal gives, or the line that says which block was refused and why.
+/// The text of the return that a journal gives, or which block was refused and why.
 ///
 /// ```
+/// use prtr::{Decline, Refused};
+///
 /// /// A block of 512 bytes with its check sums.
 /// fn block(kind: u8, count: u8, number: u16, body: &[u8]) -> Vec<u8> {
 ///     let mut block = [&b"PRTR"[..], &[kind, count], &number.to_le_bytes(), body].concat();
@@ -286,21 +274,28 @@ pub fn loss_bits(form: u8, number: u16, w: u64, u: u64, p: u64, q: u64) -> Resul
 ///
 /// let title = "substance handled due air water soil land sewer offsite\n";
 /// let xylene = "80 1215000000000 Y 230 0.0 0.0 0.0 0.0 0.0\n";
-/// assert_eq!(prtr::filing(&journal), [title, xylene].concat());
-/// assert_eq!(prtr::filing(&[]), title);
-/// assert_eq!(prtr::filing(&journal[..1_000]), "refused 1 1\n");
+/// assert_eq!(prtr::filing(&journal), Ok([title, xylene].concat()));
+/// assert_eq!(prtr::filing(&[]), Ok(title.to_string()));
+///
+/// let short = Refused { block: 1, decline: Decline::NotABlock };
+/// assert_eq!(prtr::filing(&journal[..1_000]), Err(short));
 /// ```
-pub fn filing(journal: &[u8]) -> String {
+pub fn filing(journal: &[u8]) -> Result<String, Refused> {
     let mut out = vec![0; ROOM];
-    let length = raw::filing(journal, &mut out);
+    let length = filing_into(journal, &mut out).expect("ROOM bytes are lent");
     out.truncate(length);
-    String::from_utf8(out).expect("the text of a return is ASCII")
+    let text = String::from_utf8(out).expect("libprtr.a writes ASCII");
+    match refused::read(&text) {
+        Some(refused) => Err(refused),
+        None => Ok(text),
+    }
 }
 
-/// Puts the text of [`filing`] at the start of `out` and gives its length; `None`, and `out` as it
+/// Puts the library's text at the start of `out` and gives its length; `None`, and `out` as it
 /// was, where `out` is shorter than [`ROOM`].
 ///
-/// The bytes behind the text stay as they were.
+/// The text is given as it is: the return, or for a refused journal the line `refused`, the block's place from 0
+/// and the decline's number. The bytes behind it stay as they were.
 ///
 /// ```
 /// let mut out = [b'.'; prtr::ROOM];
@@ -311,7 +306,10 @@ pub fn filing(journal: &[u8]) -> String {
 #[inline]
 pub fn filing_into(journal: &[u8], out: &mut [u8]) -> Option<usize> {
     match raw::filing(journal, out) {
-        0 => None,
+        0 => {
+            assert!(out.len() < ROOM, "libprtr.a asks for more than ROOM bytes");
+            None
+        }
         length => Some(length),
     }
 }

@@ -2,6 +2,7 @@
 //!
 //! A text shows two digits of a heading, so that a microgram too many shows only at such an edge.
 
+use crate::case::caught;
 use crate::layout::{Holding, Post};
 use crate::ledger::{exactly, MOST_MICROGRAMS};
 use crate::rng::Rng;
@@ -15,7 +16,12 @@ const TEN: u64 = 9_950_000_000;
 
 /// Adds such posts for some substances and headings; `close` says whether a close will follow.
 pub fn aim(rng: &mut Rng, year: &mut Year, close: bool) {
-    for (substance, report) in (0u8..).zip(reports(&year.site, &year.posts, close)) {
+    aim_at_due(rng, year, close);
+    aim_at_figures(rng, year, close);
+}
+
+fn aim_at_due(rng: &mut Rng, year: &mut Year, close: bool) {
+    for (substance, report) in (0u8..).zip(reports(year, close)) {
         let due = DUE[year.site.classes[substance as usize] as usize - 1];
         let missing = due.saturating_sub(report.handled);
         let quantity = match rng.below(4) {
@@ -29,7 +35,10 @@ pub fn aim(rng: &mut Rng, year: &mut Year, close: bool) {
             year.add(Post::formed((stage, substance), quantity));
         }
     }
-    for (substance, report) in (0u8..).zip(reports(&year.site, &year.posts, close)) {
+}
+
+fn aim_at_figures(rng: &mut Rng, year: &mut Year, close: bool) {
+    for (substance, report) in (0u8..).zip(reports(year, close)) {
         for (heading, amount) in report.headings.into_iter().enumerate() {
             if report.due && !rng.once_in(3) {
                 raise(rng, year, heading, substance, amount);
@@ -39,18 +48,23 @@ pub fn aim(rng: &mut Rng, year: &mut Year, close: bool) {
 }
 
 /// What the model reports of each substance after these posts and perhaps a close.
-fn reports(site: &Site, posts: &[Post], close: bool) -> Vec<model::Report> {
+fn asked(site: &Site, posts: &[Post], close: bool) -> Result<Vec<model::Report>, u8> {
     let mut book = model::Book::new();
     for block in site.blocks() {
-        book.block(&block).expect("a site's set-up is taken");
+        book.block(&block)?;
     }
     for post in posts.iter().chain(close.then_some(&Post::CLOSE)) {
-        book.post(&post.bytes())
-            .expect("a post in balance is taken");
+        book.post(&post.bytes())?;
     }
     (0..book.substances())
-        .map(|place| book.report(place).expect("a substance of the book"))
+        .map(|place| book.report(place))
         .collect()
+}
+
+/// The model's reports; none where it doesn't take the year, which the comparison then shows.
+fn reports(year: &Year, close: bool) -> Vec<model::Report> {
+    let asked = caught(|| asked(&year.site, &year.posts, close));
+    asked.map_or_else(|_| Vec::new(), Result::unwrap_or_default)
 }
 
 /// Forms what is missing to an edge and lets it leave under the heading, so that no holding changes.

@@ -40,7 +40,6 @@ pub fn damaged(rng: &mut Rng, year: &Year) -> Vec<u8> {
     }
     let faults = if rng.once_in(4) { 2 } else { 1 };
     for _ in 0..faults {
-        let fault = rng.pick(&FAULTS);
         fault(rng, &mut blocks);
     }
     let mut journal = blocks.as_flattened().to_vec();
@@ -48,6 +47,12 @@ pub fn damaged(rng: &mut Rng, year: &Year) -> Vec<u8> {
         cut_or_extend(rng, &mut journal);
     }
     journal
+}
+
+/// Puts any one fault into the blocks.
+pub fn fault(rng: &mut Rng, blocks: &mut Vec<Block>) {
+    let fault = rng.pick(&FAULTS);
+    fault(rng, blocks);
 }
 
 /// Flips a bit and leaves the check sums.

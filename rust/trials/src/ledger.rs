@@ -26,7 +26,7 @@ impl Ledger {
         let counted = |contents: &Vec<u32>| {
             let pairs = contents.iter().zip(&site.classes);
             pairs
-                .map(|(&ppm, &class)| model::counted(class, ppm).expect("a site's") as u64)
+                .map(|(&ppm, &class)| model::counted(class, ppm).unwrap_or(0) as u64)
                 .collect()
         };
         Ledger {

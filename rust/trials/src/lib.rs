@@ -3,10 +3,15 @@
 //! `PRTR_SEED` sets the seed and `PRTR_CASES` multiplies the number of cases.
 
 pub mod aim;
+pub mod calls;
+pub mod case;
 pub mod damage;
 pub mod floats;
 pub mod layout;
 pub mod ledger;
+pub mod limit;
+pub mod lists;
+pub mod program;
 pub mod rng;
 pub mod site;
 pub mod trial;

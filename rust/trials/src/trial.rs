@@ -1,11 +1,14 @@
 //! Gives journals to the library and to the model, counts them, and stops at the first difference.
 
 use std::env;
-use std::fmt::Write as _;
-use std::fs;
-use std::io::{self, Write as _};
-use std::path::{Path, PathBuf};
+use std::fmt::Debug;
+use std::io::{self, Write};
+use std::ops::Range;
+use std::path::PathBuf;
 
+use prtr::Refused;
+
+use crate::case;
 use crate::layout::{Block, BLOCK};
 use crate::rng::Rng;
 
@@ -13,7 +16,7 @@ use crate::rng::Rng;
 const SEED: u64 = 20_260_401;
 /// What the lent bytes hold before a call.
 const FILL: u8 = 0xa5;
-/// The bytes lent beyond the longest text.
+/// The bytes lent beyond the room that is asked for.
 const SPARE: usize = 40;
 
 /// What was given and how it was answered.
@@ -39,10 +42,14 @@ pub struct Answer {
     pub refused: Option<(u64, u8)>,
 }
 
-/// A row of journals under one name and seed.
+/// A row of comparisons under one name and seed.
 pub struct Trial {
     name: &'static str,
     seed: u64,
+    /// The part and case whose numbers were asked for last.
+    place: (u64, u64),
+    /// Comparisons so far.
+    compared: u64,
     /// The counts so far.
     pub tally: Tally,
 }
@@ -58,39 +65,93 @@ impl Trial {
         Trial {
             name,
             seed,
+            place: (0, 0),
+            compared: 0,
             tally: Tally::default(),
         }
     }
 
     /// The numbers for a case of a part, which depend on nothing before it.
-    pub fn rng(&self, part: u64, case: u64) -> Rng {
+    pub fn rng(&mut self, part: u64, case: u64) -> Rng {
+        self.place = (part, case);
         let base = Rng::new(self.seed ^ part << 48).word();
         Rng::new(base.wrapping_add(case.wrapping_mul(0xd134_2543_de82_ef95)))
     }
 
-    /// The numbers of each case of a part, the usual count times `PRTR_CASES`.
-    pub fn cases(&self, part: u64, usual: u64) -> impl Iterator<Item = Rng> {
-        let rngs: Vec<Rng> = (0..usual * multiplier())
-            .map(|case| self.rng(part, case))
-            .collect();
-        rngs.into_iter()
+    /// Which comparison of the trial this is, and what makes it again.
+    fn heading(&self) -> String {
+        format!(
+            "{}: PRTR_SEED={} PRTR_CASES={}, part {}, case {}, comparison {}",
+            self.name,
+            self.seed,
+            multiplier(),
+            self.place.0,
+            self.place.1,
+            self.compared
+        )
     }
 
-    /// Gives a journal to both; panics where they differ, with the case in a file.
-    pub fn give(&mut self, journal: &[u8]) -> Answer {
-        let expected = model::filing(journal);
-        let text = match text_of(journal) {
-            Ok(text) => text,
-            Err(fault) => [b"a fault of the call: ", fault.as_bytes()].concat(),
-        };
-        if let Some(path) = differ(self.name, journal, &text, &expected) {
+    /// Writes a case down with what is said of it, and gives its path.
+    fn write(&self, input: &[u8], said: &str) -> PathBuf {
+        case::write(self.name, input, &format!("{}\n{said}\n", self.heading()))
+    }
+
+    /// Stops, with the case in a file.
+    pub fn fail(&self, input: &[u8], said: &str) -> ! {
+        let path = self.write(input, said);
+        panic!("{}\n{said}\nsee {}", self.heading(), path.display());
+    }
+
+    /// Where two texts differ, the path of a file with the input; what both said is beside it.
+    pub fn differ(&self, input: &[u8], library: &[u8], model: &[u8]) -> Option<PathBuf> {
+        (library != model).then(|| self.write(input, &case::both(library, model)))
+    }
+
+    /// Stops where two texts differ.
+    pub fn agree(&mut self, input: &[u8], library: &[u8], model: &[u8]) {
+        self.compared += 1;
+        if let Some(path) = self.differ(input, library, model) {
+            let heading = self.heading();
             panic!(
-                "{}: library and model differ, see {}",
-                self.name,
+                "{heading}: library and model differ, see {}",
                 path.display()
             );
         }
-        self.count(journal, &text)
+    }
+
+    /// Stops where both don't give the same answer to a call, with the call in a file.
+    pub fn same<A: PartialEq + Debug>(
+        &mut self,
+        call: impl Fn() -> String,
+        library: impl FnOnce() -> A,
+        model: impl FnOnce() -> A,
+    ) {
+        self.compared += 1;
+        let (library, model) = (case::caught(library), case::caught(model));
+        if library.is_err() || library != model {
+            let said = format!("{}\nlibrary: {library:?}\nmodel: {model:?}", call());
+            self.fail(call().as_bytes(), &said);
+        }
+    }
+
+    /// Gives a journal to both; stops where they differ.
+    pub fn give(&mut self, journal: &[u8]) -> Answer {
+        let model = case::text("model", || model::filing(journal));
+        let library = case::text("library", || text_of(journal));
+        self.agree(journal, &library, &model);
+        let safe = case::text("prtr::filing", || safe_text(journal));
+        self.agree(journal, &safe, &model);
+        self.count(journal, &library)
+    }
+
+    /// Gives a journal that must be refused so, or not at all.
+    pub fn expect(&mut self, journal: &[u8], refused: Option<(u64, u8)>, what: &str) -> Answer {
+        let answer = self.give(journal);
+        if answer.refused != refused {
+            let said = format!("{what}: {refused:?} was expected, not {:?}", answer.refused);
+            self.fail(journal, &said);
+        }
+        answer
     }
 
     /// Gives whole blocks.
@@ -128,20 +189,19 @@ impl Trial {
             filed,
             declines,
         } = &self.tally;
-        let mut line = format!(
-            "{}: {journals} journals, {given} blocks given and {read} read, {filed} filed; declined",
-            self.name
-        );
-        for (number, count) in declines
-            .iter()
-            .enumerate()
-            .skip(1)
-            .filter(|(_, &count)| count > 0)
-        {
-            write!(line, " {number}:{count}").expect("a string takes all");
-        }
-        say(&line);
+        say(&format!(
+            "{}: {journals} journals, {given} blocks given and {read} read, {filed} filed; declined{}",
+            self.name,
+            self::declines(declines)
+        ));
     }
+}
+
+/// Each number that was met and how often.
+pub fn declines(counts: &[u64; 13]) -> String {
+    let met = (1..).zip(&counts[1..]).filter(|(_, &count)| count > 0);
+    met.map(|(number, count): (u8, _)| format!(" {number}:{count}"))
+        .collect()
 }
 
 /// Prints past the test harness, which keeps what a passing test prints to itself.
@@ -150,7 +210,7 @@ pub fn say(line: &str) {
 }
 
 /// How many times the usual cases are wanted.
-pub fn multiplier() -> u64 {
+fn multiplier() -> u64 {
     setting("PRTR_CASES").unwrap_or(1)
 }
 
@@ -163,17 +223,30 @@ fn setting(name: &str) -> Option<u64> {
     )
 }
 
-/// What the library writes, if it writes nothing else.
-pub fn text_of(journal: &[u8]) -> Result<Vec<u8>, String> {
+/// The cases of a part: the usual count times `PRTR_CASES`.
+pub fn cases(usual: u64) -> Range<u64> {
+    0..usual * multiplier()
+}
+
+/// What the library writes; panics where it writes something else too.
+pub fn text_of(journal: &[u8]) -> Vec<u8> {
     let mut out = [FILL; prtr::ROOM + SPARE];
     let length = prtr::raw::filing(journal, &mut out);
-    if !(1..=prtr::ROOM).contains(&length) {
-        return Err(format!("a length of {length}"));
-    }
-    if out[length..].iter().any(|&byte| byte != FILL) {
-        return Err(format!("bytes altered behind the {length} of the text"));
-    }
-    Ok(out[..length].to_vec())
+    assert!((1..=prtr::ROOM).contains(&length), "a length of {length}");
+    let behind = &out[length..];
+    assert!(
+        behind.iter().all(|&byte| byte == FILL),
+        "bytes altered behind the {length} of the text"
+    );
+    out[..length].to_vec()
+}
+
+/// What the safe function answers, as the text that it stands for.
+pub fn safe_text(journal: &[u8]) -> Vec<u8> {
+    let text = prtr::filing(journal).unwrap_or_else(|Refused { block, decline }| {
+        format!("refused {block} {}\n", decline.number())
+    });
+    text.into_bytes()
 }
 
 /// The place and number of a line `refused PLACE NUMBER`.
@@ -181,37 +254,4 @@ fn refusal(text: &[u8]) -> Option<(u64, u8)> {
     let text = std::str::from_utf8(text).ok()?;
     let mut words = text.strip_prefix("refused ")?.split_whitespace();
     Some((words.next()?.parse().ok()?, words.next()?.parse().ok()?))
-}
-
-/// Where two texts differ, the path of a file with the journal; what both said is beside it.
-pub fn differ(name: &str, journal: &[u8], library: &[u8], model: &[u8]) -> Option<PathBuf> {
-    if library == model {
-        return None;
-    }
-    let said = format!(
-        "library:\n{}\nmodel:\n{}\n",
-        String::from_utf8_lossy(library),
-        String::from_utf8_lossy(model)
-    );
-    let path = case_path(name, journal);
-    fs::write(&path, journal).expect("the case is written");
-    fs::write(path.with_extension("txt"), said).expect("what both said is written");
-    Some(path)
-}
-
-/// Writes a call of a calculation that was answered in two ways, and gives the file's path.
-pub fn differ_call(name: &str, call: &str) -> PathBuf {
-    let path = case_path(name, call.as_bytes()).with_extension("txt");
-    fs::write(&path, call).expect("the case is written");
-    path
-}
-
-/// A path under target/ that the case's bytes name.
-fn case_path(name: &str, bytes: &[u8]) -> PathBuf {
-    let folder = Path::new(env!("CARGO_MANIFEST_DIR")).join("../target/differences");
-    fs::create_dir_all(&folder).expect("the folder of differences is made");
-    let hash = bytes.iter().fold(0xcbf2_9ce4_8422_2325u64, |hash, &byte| {
-        (hash ^ byte as u64).wrapping_mul(0x0000_0100_0000_01b3)
-    });
-    folder.join(format!("{}-{hash:016x}.journal", name.replace(' ', "-")))
 }

@@ -4,20 +4,36 @@ use std::ops::RangeInclusive;
 
 use trials::floats::{edges, RANGES, SPECIALS};
 use trials::layout::{
-    frame, posts_block, put_sums, seal, sums, Block, Post, BODY, MODULUS, POST, SUMS,
+    frame, posts_block, put_sums, seal, sums, Block, Post, BLOCK, BODY, MODULUS, POST, SUMS,
 };
 use trials::ledger::{MOST_GRAMS, MOST_MICROGRAMS};
 use trials::rng::Rng;
 use trials::site::{Pair, Site, Stage};
-use trials::trial::Trial;
+use trials::trial::{cases, Trial};
 
-/// Bytes put at an offset of a block, and the decline that follows.
+/// How a block is broken.
+enum Fault {
+    /// Bytes at an offset of what the check sums cover, which are mended.
+    Put(usize, Vec<u8>),
+    /// A bit of a byte of the check sums, flipped after they are mended.
+    Flip(usize),
+    /// The journal ends so many bytes into the block.
+    Cut(usize),
+}
+
+/// A fault of a block, and the decline that follows.
 struct Rule {
     name: String,
     block: usize,
-    offset: usize,
-    bytes: Vec<u8>,
+    fault: Fault,
     number: u8,
+}
+
+impl Rule {
+    /// The block's place and the decline's number.
+    fn refused(&self) -> Option<(u64, u8)> {
+        Some((self.block as u64, self.number))
+    }
 }
 
 /// The usual floats of each form, in their ranges.
@@ -31,8 +47,7 @@ fn rule(name: &str, block: usize, offset: usize, bytes: impl AsRef<[u8]>, number
     Rule {
         name: name.into(),
         block,
-        offset,
-        bytes: bytes.as_ref().to_vec(),
+        fault: Fault::Put(offset, bytes.as_ref().to_vec()),
         number,
     }
 }
@@ -104,6 +119,24 @@ fn frame_rules() -> Vec<Rule> {
             rule("number with a high byte", block, 7, [1], 3),
             rule("last byte of the body", block, SUMS - 1, [1], 6),
         ]
+    };
+    (0..5).flat_map(of_block).collect()
+}
+
+/// The check sums and the length, which every block has too.
+fn sum_and_length_rules() -> Vec<Rule> {
+    let named = |name: &str, block, fault, number| Rule {
+        name: name.into(),
+        block,
+        fault,
+        number,
+    };
+    let of_block = |block| {
+        let flip = |offset| named(&format!("sum at {offset}"), block, Fault::Flip(offset), 2);
+        let cut = |length| named(&format!("{length} bytes"), block, Fault::Cut(length), 1);
+        let sums = (SUMS..BLOCK).map(flip);
+        sums.chain([1, 4, SUMS, BLOCK - 1].map(cut))
+            .collect::<Vec<Rule>>()
     };
     (0..5).flat_map(of_block).collect()
 }
@@ -270,6 +303,7 @@ fn late_rules() -> Vec<Rule> {
 fn rules() -> Vec<Rule> {
     [
         frame_rules(),
+        sum_and_length_rules(),
         setup_rules(),
         content_rules(),
         stage_rules(),
@@ -282,32 +316,48 @@ fn rules() -> Vec<Rule> {
     .collect()
 }
 
-fn break_rule(blocks: &mut [Block], rule: &Rule) {
-    let block = &mut blocks[rule.block];
-    block[rule.offset..rule.offset + rule.bytes.len()].copy_from_slice(&rule.bytes);
-    seal(block);
+/// The journal with these rules broken: first what is sealed, then the check sums, then the length.
+fn broken(rules: &[&Rule]) -> Vec<u8> {
+    let mut blocks = journal();
+    for rule in rules {
+        if let Fault::Put(offset, bytes) = &rule.fault {
+            blocks[rule.block][*offset..*offset + bytes.len()].copy_from_slice(bytes);
+            seal(&mut blocks[rule.block]);
+        }
+    }
+    let mut journal = blocks.as_flattened().to_vec();
+    for rule in rules {
+        if let Fault::Flip(offset) = rule.fault {
+            journal[BLOCK * rule.block + offset] ^= 1;
+        }
+    }
+    for rule in rules {
+        if let Fault::Cut(length) = rule.fault {
+            journal.truncate(BLOCK * rule.block + length);
+        }
+    }
+    journal
 }
 
 #[test]
 fn each_rule_alone() {
     let mut trial = Trial::new("rules alone");
-    assert!(
-        trial.give_blocks(&journal()).refused.is_none(),
-        "the unbroken journal was refused"
-    );
+    trial.expect(&broken(&[]), None, "the unbroken journal");
     for rule in rules() {
-        let mut blocks = journal();
-        break_rule(&mut blocks, &rule);
-        let refused = trial.give_blocks(&blocks).refused;
-        assert_eq!(
-            refused,
-            Some((rule.block as u64, rule.number)),
-            "{}, block {}",
-            rule.name,
-            rule.block
-        );
+        trial.expect(&broken(&[&rule]), rule.refused(), &rule.name);
     }
     trial.finish();
+}
+
+/// The rule that decides where the paper's order alone says it: the earlier block's, or in one block that of the
+/// checks 1 to 3 which comes first.
+fn deciding<'a>(one: &'a Rule, other: &'a Rule) -> Option<&'a Rule> {
+    let first = if (one.block, one.number) < (other.block, other.number) {
+        one
+    } else {
+        other
+    };
+    (one.block != other.block || first.number <= 3).then_some(first)
 }
 
 #[test]
@@ -316,38 +366,41 @@ fn two_rules_at_once() {
     let rules = rules();
     for (place, one) in rules.iter().enumerate() {
         for other in &rules[..place] {
-            let mut blocks = journal();
-            break_rule(&mut blocks, one);
-            break_rule(&mut blocks, other);
-            trial.give_blocks(&blocks);
+            let journal = broken(&[one, other]);
+            match deciding(one, other) {
+                Some(rule) => {
+                    let what = format!("{} and {}", one.name, other.name);
+                    trial.expect(&journal, rule.refused(), &what)
+                }
+                None => trial.give(&journal),
+            };
         }
     }
     trial.finish();
 }
 
+/// Edges, and what is near to a byte.
+fn values(byte: u8) -> [u8; 8] {
+    let [more, less] = [byte.wrapping_add(1), byte.wrapping_sub(1)];
+    [0, 1, 2, 255, more, less, byte ^ 16, byte ^ 128]
+}
+
+/// A byte that differs breaks the tag or a check sum; with the sums mended, what it means.
 #[test]
 fn every_byte() {
     let mut trial = Trial::new("every byte");
     let base = journal();
-    for block in 0..base.len() {
-        for offset in 0..SUMS {
-            let byte = base[block][offset];
-            for value in [
-                0,
-                1,
-                2,
-                255,
-                byte.wrapping_add(1),
-                byte.wrapping_sub(1),
-                byte ^ 16,
-                byte ^ 128,
-            ] {
-                let mut blocks = base.clone();
-                blocks[block][offset] = value;
-                trial.give_blocks(&blocks);
-                seal(&mut blocks[block]);
-                trial.give_blocks(&blocks);
-            }
+    for (block, offset) in (0..base.len()).flat_map(|block| (0..BLOCK).map(move |at| (block, at))) {
+        let byte = base[block][offset];
+        for value in values(byte) {
+            let mut blocks = base.clone();
+            blocks[block][offset] = value;
+            let number = if offset < 4 { 1 } else { 2 };
+            let refused = (value != byte).then_some((block as u64, number));
+            let what = format!("{value} at {offset} of block {block}");
+            trial.expect(blocks.as_flattened(), refused, &what);
+            seal(&mut blocks[block]);
+            trial.give_blocks(&blocks);
         }
     }
     trial.finish();
@@ -367,11 +420,10 @@ fn vapour_floats() {
                 blocks[4] = posts_block(4, &posts[10..]);
                 let refused = trial.give_blocks(&blocks).refused;
                 let within = (range.0..=range.1).contains(&f64::from_bits(bits));
-                assert_eq!(
-                    refused == Some((4, 7)),
-                    !within,
-                    "form {form}, place {place}, {bits:016x}"
-                );
+                if (refused == Some((4, 7))) == within {
+                    let said = format!("form {form}, place {place}, {bits:016x}: {refused:?}");
+                    trial.fail(blocks.as_flattened(), &said);
+                }
             }
         }
     }
@@ -388,14 +440,9 @@ fn unused_floats() {
             let mut blocks = journal();
             blocks[3] = posts_block(3, &posts[..10]);
             blocks[4] = posts_block(4, &posts[10..]);
-            let refused = trial.give_blocks(&blocks).refused;
-            let expected = (bits << 1 != 0).then_some((3 + place as u64 / 10, 7));
-            assert_eq!(
-                refused,
-                expected,
-                "kind {}, float {float}, {bits:016x}",
-                place + 1
-            );
+            let refused = (bits << 1 != 0).then_some((3 + place as u64 / 10, 7));
+            let what = format!("kind {}, float {float}, {bits:016x}", place + 1);
+            trial.expect(blocks.as_flattened(), refused, &what);
         }
     }
     trial.finish();
@@ -427,13 +474,8 @@ fn turns() {
             for (off, number) in [(0, number), (1, 3)] {
                 let mut blocks = journal()[..taken].to_vec();
                 blocks.push(empty(kind.0, kind.1, taken as u16 + off));
-                let refused = trial.give_blocks(&blocks).refused;
-                assert_eq!(
-                    refused,
-                    Some((taken as u64, number)),
-                    "kind {} after {taken}",
-                    kind.0
-                );
+                let what = format!("kind {} after {taken}", kind.0);
+                trial.expect(blocks.as_flattened(), Some((taken as u64, number)), &what);
             }
         }
     }
@@ -459,23 +501,19 @@ fn plain(block: &Block) -> u32 {
 #[test]
 fn unreduced_sums() {
     let mut trial = Trial::new("unreduced sums");
-    for mut rng in trial.cases(1, 20) {
+    for case in cases(20) {
+        let mut rng = trial.rng(1, case);
         for which in 0..2 {
             let mut block = junk(&mut rng, which);
             let mut stored = sums(&block);
             put_sums(&mut block, stored);
-            assert_ne!(
-                trial.give_blocks(&[block]).refused,
-                Some((0, 2)),
-                "reduced sums are right"
-            );
+            if trial.give_blocks(&[block]).refused == Some((0, 2)) {
+                trial.fail(&block, "reduced sums are right");
+            }
             stored[which] += MODULUS as u16;
             put_sums(&mut block, stored);
-            assert_eq!(
-                trial.give_blocks(&[block]).refused,
-                Some((0, 2)),
-                "sum {which} is not reduced"
-            );
+            let what = format!("sum {which} is not reduced");
+            trial.expect(&block, Some((0, 2)), &what);
         }
     }
     trial.finish();

@@ -1,22 +1,13 @@
 //! Each calculation over edges and random numbers, and the cells that a decline must leave.
 
-use prtr::raw;
+use prtr::{raw, Class, Decline, Form};
 use trials::floats::{any, edges, within, RANGES};
 use trials::rng::Rng;
 use trials::site::{ROWS, WHOLE};
-use trials::trial::{differ_call, multiplier, say, Trial};
+use trials::trial::{cases, say, Trial};
 
 /// What a cell holds before a call.
 const BEFORE: u64 = 0x5a5a_5a5a_5a5a_5a5a;
-
-/// Stops where library and model differ, with the call in a file.
-fn same<A: PartialEq + std::fmt::Debug>(call: impl Fn() -> String, library: A, model: A) {
-    if library != model {
-        let said = format!("{}\nlibrary: {library:?}\nmodel: {model:?}\n", call());
-        let path = differ_call("calculation", &said);
-        panic!("library and model differ, see {}\n{said}", path.display());
-    }
-}
 
 /// Powers of ten and two, halves of steps, the thresholds, and the numbers beside each.
 fn edge_amounts() -> Vec<u64> {
@@ -47,7 +38,7 @@ fn edge_amounts() -> Vec<u64> {
 fn amounts(rng: &mut Rng, count: u64) -> impl Iterator<Item = u64> + '_ {
     edge_amounts()
         .into_iter()
-        .chain((0..count * multiplier()).map(|_| rng.size(u64::MAX)))
+        .chain(cases(count).map(|_| rng.size(u64::MAX)))
 }
 
 fn edge_rates() -> [u32; 12] {
@@ -67,114 +58,163 @@ fn edge_rates() -> [u32; 12] {
     ]
 }
 
-fn compare_counted(class: u8, ppm: u32) {
-    let mut cell = BEFORE as u32;
-    let status = raw::counted(class, ppm, &mut cell);
-    let model =
-        model::counted(class, ppm).map_or_else(|number| (number, BEFORE as u32), |ppm| (0, ppm));
-    same(|| format!("counted({class}, {ppm})"), (status, cell), model);
+/// What a call left: its status, and the cell's value or what it was before.
+fn left<A>(answer: Result<A, u8>, before: A) -> (u8, A) {
+    match answer {
+        Ok(value) => (0, value),
+        Err(number) => (number, before),
+    }
 }
 
-fn compare_split(total: u64, removal: u32, destruction: u32) {
-    let [mut released, mut destroyed, mut residue] = [BEFORE, BEFORE + 1, BEFORE + 2];
-    let status = raw::split(
-        total,
-        removal,
-        destruction,
-        &mut released,
-        &mut destroyed,
-        &mut residue,
-    );
-    let model = match model::split(total, removal, destruction) {
-        Ok(parts) => (0, [parts.released, parts.destroyed, parts.residue]),
-        Err(number) => (number, [BEFORE, BEFORE + 1, BEFORE + 2]),
+fn compare_counted(trial: &mut Trial, class: u8, ppm: u32) {
+    let call = || format!("counted({class}, {ppm})");
+    let model = || model::counted(class, ppm);
+    let raw = || {
+        let mut cell = BEFORE as u32;
+        (raw::counted(class, ppm, &mut cell), cell)
     };
-    let call = || format!("split({total}, {removal}, {destruction})");
-    same(call, (status, [released, destroyed, residue]), model);
+    trial.same(call, raw, || left(model(), BEFORE as u32));
+    let safe = || prtr::counted(Class::try_from(class)?, ppm);
+    trial.same(call, || safe().map_err(Decline::number), model);
 }
 
-fn compare_due(class: u8, handled: u64) {
-    let mut cell = BEFORE as u8;
-    let status = raw::due(class, handled, &mut cell);
-    let model = model::due(class, handled)
-        .map_or_else(|number| (number, BEFORE as u8), |due| (0, due as u8));
-    same(|| format!("due({class}, {handled})"), (status, cell), model);
+fn compare_split(trial: &mut Trial, total: u64, removal: u32, destruction: u32) {
+    let call = || format!("split({total}, {removal}, {destruction})");
+    let model = || {
+        let parts = model::split(total, removal, destruction)?;
+        Ok([parts.released, parts.destroyed, parts.residue])
+    };
+    let before = [BEFORE, BEFORE + 1, BEFORE + 2];
+    let raw = || {
+        let [mut a, mut b, mut c] = before;
+        let status = raw::split(total, removal, destruction, &mut a, &mut b, &mut c);
+        (status, [a, b, c])
+    };
+    trial.same(call, raw, || left(model(), before));
+    let safe = || {
+        let parts = prtr::split(total, removal, destruction).map_err(Decline::number)?;
+        Ok([parts.released, parts.destroyed, parts.residue])
+    };
+    trial.same(call, safe, model);
+}
+
+fn compare_due(trial: &mut Trial, class: u8, handled: u64) {
+    let call = || format!("due({class}, {handled})");
+    let model = || model::due(class, handled);
+    let raw = || {
+        let mut cell = BEFORE as u8;
+        (raw::due(class, handled, &mut cell), cell)
+    };
+    let number = || model().map(u8::from);
+    trial.same(call, raw, || left(number(), BEFORE as u8));
+    let safe = || Ok(prtr::due(Class::try_from(class)?, handled));
+    trial.same(call, || safe().map_err(Decline::number), model);
+}
+
+/// The form with its measurements; none for another number, or where form 1 has a fourth float.
+fn form_of(form: u8, floats: [u64; 4]) -> Option<Form> {
+    let [w, u, p, q] = floats.map(f64::from_bits);
+    Some(match form {
+        1 if floats[3] == 0 => Form::FloatingRoof {
+            diameter: w,
+            content: u,
+            drawn: p,
+        },
+        2 => Form::FixedRoof {
+            volume: w,
+            partial: u,
+            tank: p,
+            share: q,
+        },
+        3 => Form::Station {
+            received: w,
+            filling: u,
+            dispensed: p,
+            fuelling: q,
+        },
+        _ => return None,
+    })
 }
 
 /// Gives the status, so that a test can count the declines.
-fn compare_loss(form: u8, number: u16, floats: [u64; 4]) -> u8 {
-    let mut cell = BEFORE;
-    let status = raw::loss(form, number, floats, &mut cell);
+fn compare_loss(trial: &mut Trial, form: u8, number: u16, floats: [u64; 4]) -> u8 {
     let [w, u, p, q] = floats;
-    let model = model::loss(form, number, w, u, p, q)
-        .map_or_else(|number| (number, BEFORE), |lost| (0, lost));
-    same(
-        || format!("loss({form}, {number}, {floats:016x?})"),
-        (status, cell),
-        model,
-    );
-    status
+    let call = || format!("loss({form}, {number}, {floats:016x?})");
+    let model = || model::loss(form, number, w, u, p, q);
+    let bits = || prtr::loss_bits(form, number, w, u, p, q).map_err(Decline::number);
+    trial.same(call, bits, model);
+    if let Some(form) = form_of(form, floats) {
+        let safe = || prtr::loss(form, number).map_err(Decline::number);
+        trial.same(call, safe, model);
+    }
+    let raw = || {
+        let mut cell = BEFORE;
+        (raw::loss(form, number, floats, &mut cell), cell)
+    };
+    trial.same(call, raw, || left(model(), BEFORE));
+    raw().0
 }
 
 #[test]
 fn counted_contents() {
+    let mut trial = Trial::new("counted contents");
     for ppm in 0..=WHOLE + 1_000 {
-        compare_counted(1, ppm);
-        compare_counted(2, ppm);
+        compare_counted(&mut trial, 1, ppm);
+        compare_counted(&mut trial, 2, ppm);
     }
-    let mut rng = Trial::new("counted contents").rng(1, 0);
+    let mut rng = trial.rng(1, 0);
     for class in 0..=255 {
+        let any = cases(100).map(|_| rng.word() as u32);
         edge_rates()
             .into_iter()
-            .for_each(|ppm| compare_counted(class, ppm));
-        (0..100 * multiplier()).for_each(|_| compare_counted(class, rng.word() as u32));
+            .chain(any)
+            .for_each(|ppm| compare_counted(&mut trial, class, ppm));
     }
 }
 
 #[test]
 fn splits() {
+    let mut trial = Trial::new("splits");
     for total in edge_amounts() {
         for removal in edge_rates() {
             edge_rates()
                 .into_iter()
-                .for_each(|destruction| compare_split(total, removal, destruction));
+                .for_each(|destruction| compare_split(&mut trial, total, removal, destruction));
         }
     }
-    let mut rng = Trial::new("splits").rng(1, 0);
-    for _ in 0..1_000_000 * multiplier() {
+    let mut rng = trial.rng(1, 0);
+    for _ in cases(1_000_000) {
         let [removal, destruction] = [(); 2].map(|()| rng.below(WHOLE as u64 + 50) as u32);
-        compare_split(rng.size(u64::MAX), removal, destruction);
+        compare_split(&mut trial, rng.size(u64::MAX), removal, destruction);
     }
 }
 
 #[test]
 fn steps_and_figures() {
-    let mut rng = Trial::new("steps and figures").rng(1, 0);
+    let mut trial = Trial::new("steps and figures");
+    let mut rng = trial.rng(1, 0);
     for amount in amounts(&mut rng, 1_000_000) {
-        same(
-            || format!("step({amount})"),
-            raw::step(amount),
-            model::step(amount),
-        );
-        same(
-            || format!("figure({amount})"),
-            raw::figure(amount),
-            model::figure(amount),
-        );
+        let step = || format!("step({amount})");
+        let figure = || format!("figure({amount})");
+        trial.same(step, || raw::step(amount), || model::step(amount));
+        trial.same(step, || prtr::step(amount), || model::step(amount));
+        trial.same(figure, || raw::figure(amount), || model::figure(amount));
+        trial.same(figure, || prtr::figure(amount), || model::figure(amount));
     }
 }
 
 #[test]
 fn thresholds() {
-    let mut rng = Trial::new("thresholds").rng(1, 0);
+    let mut trial = Trial::new("thresholds");
+    let mut rng = trial.rng(1, 0);
     for class in 0..=255 {
         edge_amounts()
             .into_iter()
-            .for_each(|handled| compare_due(class, handled));
+            .for_each(|handled| compare_due(&mut trial, class, handled));
     }
     for handled in amounts(&mut rng, 500_000) {
-        compare_due(1, handled);
-        compare_due(2, handled);
+        compare_due(&mut trial, 1, handled);
+        compare_due(&mut trial, 2, handled);
     }
 }
 
@@ -205,9 +245,10 @@ fn any_number(rng: &mut Rng) -> u16 {
 
 #[test]
 fn losses() {
-    let mut rng = Trial::new("losses").rng(1, 0);
+    let mut trial = Trial::new("losses");
+    let mut rng = trial.rng(1, 0);
     let mut met = [0u64; 13];
-    for _ in 0..1_000_000 * multiplier() {
+    for _ in cases(1_000_000) {
         let form = if rng.once_in(32) {
             rng.word() as u8
         } else {
@@ -218,7 +259,8 @@ fn losses() {
             0 => ranges.map(|range| any(&mut rng, range)),
             _ => ranges.map(|range| within(&mut rng, range).to_bits()),
         };
-        met[compare_loss(form, any_number(&mut rng), floats) as usize] += 1;
+        let number = any_number(&mut rng);
+        met[compare_loss(&mut trial, form, number, floats) as usize] += 1;
     }
     say(&format!(
         "losses: taken {}, declined 6:{} 7:{} 8:{} 9:{}",
@@ -236,6 +278,7 @@ fn losses() {
 /// An input is declined by 7 exactly where it is outside its range.
 #[test]
 fn float_edges() {
+    let mut trial = Trial::new("float edges");
     let usual = [
         [14.0, 0.62, 36_000.0, 0.0],
         [2_000.0, 1_550.0, 98_100.0, 1.0],
@@ -247,12 +290,11 @@ fn float_edges() {
                 let mut floats = usual.map(f64::to_bits);
                 floats[place] = bits;
                 let within = (ranges[place].0..=ranges[place].1).contains(&f64::from_bits(bits));
-                let status = compare_loss(form, 300, floats);
-                assert_eq!(
-                    status == 7,
-                    !within,
-                    "form {form}, place {place}, {bits:016x}"
-                );
+                let status = compare_loss(&mut trial, form, 300, floats);
+                if (status == 7) == within {
+                    let said = format!("form {form}, {floats:016x?}: status {status}");
+                    trial.fail(said.as_bytes(), &said);
+                }
             }
         }
     }
@@ -261,9 +303,13 @@ fn float_edges() {
 /// Around 2,000,000 kg, where the kg are compared and not the micrograms.
 #[test]
 fn loss_limit() {
+    let mut trial = Trial::new("loss limit");
     let limit = 2_000_000f64.to_bits();
     for bits in limit - 1_000..limit + 1_000 {
-        let status = compare_loss(3, 1, [bits, 1f64.to_bits(), 0, 1 << 63]);
-        assert_eq!(status, if bits > limit { 9 } else { 0 });
+        let status = compare_loss(&mut trial, 3, 1, [bits, 1f64.to_bits(), 0, 1 << 63]);
+        if status != if bits > limit { 9 } else { 0 } {
+            let said = format!("a loss of {bits:016x} kg: status {status}");
+            trial.fail(said.as_bytes(), &said);
+        }
     }
 }

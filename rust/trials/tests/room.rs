@@ -1,6 +1,7 @@
 //! The bytes that a journal's text may and may not alter, and the longest texts.
 
 use prtr::ROOM;
+use trials::case;
 use trials::layout::{Post, MOST_POSTS};
 use trials::ledger::{MOST_GRAMS, MOST_MICROGRAMS};
 use trials::rng::Rng;
@@ -8,41 +9,57 @@ use trials::site::{Pair, Site, Stage};
 use trials::trial::Trial;
 use trials::year::{tens, Year};
 
+/// What the lent bytes hold before a call.
+const FILL: u8 = 0xc3;
+
+/// No bytes, no journal, and a year.
+fn journals(trial: &mut Trial) -> [Vec<u8>; 3] {
+    let year = Year::any(&mut trial.rng(1, 0)).blocks();
+    [vec![], vec![0; 100], year.as_flattened().to_vec()]
+}
+
+/// The answer to a call, and the lent bytes after it.
+fn answer(journal: &[u8], room: usize) -> Vec<u8> {
+    let mut out = vec![FILL; room];
+    let length = prtr::filing_into(journal, &mut out);
+    said(length, out)
+}
+
+/// A length and lent bytes as one text.
+fn said(length: Option<usize>, out: Vec<u8>) -> Vec<u8> {
+    [format!("{length:?}\n").into_bytes(), out].concat()
+}
+
 #[test]
 fn too_little_room_is_left_alone() {
-    let journal = Year::any(&mut Rng::new(1)).blocks();
-    for journal in [&[][..], &[0; 100], journal.as_flattened()] {
+    let mut trial = Trial::new("too little room");
+    for journal in journals(&mut trial) {
         for room in (0..ROOM).step_by(89).chain([1, 12, 56, ROOM - 1]) {
-            let mut out = vec![0xc3; room];
-            assert_eq!(prtr::filing_into(journal, &mut out), None);
-            assert!(
-                out.iter().all(|&byte| byte == 0xc3),
-                "room {room} was written to"
-            );
+            let library = case::text("library", || answer(&journal, room));
+            trial.agree(&journal, &library, &said(None, vec![FILL; room]));
         }
     }
 }
 
 #[test]
 fn enough_room_holds_the_text_and_the_rest_stays() {
-    let journal = Year::any(&mut Rng::new(2)).blocks();
-    for journal in [&[][..], &[0; 100], journal.as_flattened()] {
-        let expected = model::filing(journal);
+    let mut trial = Trial::new("enough room");
+    for journal in journals(&mut trial) {
         for room in [ROOM, ROOM + 1, 4_096] {
-            let mut out = vec![0xc3; room];
-            assert_eq!(prtr::filing_into(journal, &mut out), Some(expected.len()));
-            assert_eq!(out[..expected.len()], expected);
-            assert!(out[expected.len()..].iter().all(|&byte| byte == 0xc3));
+            let library = case::text("library", || answer(&journal, room));
+            let mut out = case::text("model", || model::filing(&journal));
+            let length = out.len();
+            out.resize(room, FILL);
+            trial.agree(&journal, &library, &said(Some(length), out));
         }
-        assert_eq!(prtr::filing(journal).as_bytes(), expected);
     }
 }
 
 #[test]
 fn no_bytes_print_the_title() {
     assert_eq!(
-        prtr::filing(&[]),
-        "substance handled due air water soil land sewer offsite\n"
+        prtr::filing(&[]).as_deref(),
+        Ok("substance handled due air water soil land sewer offsite\n")
     );
 }
 
@@ -92,9 +109,8 @@ fn the_greatest_years() {
     ];
     for rates in rates {
         for (spread, leaving) in [(1, false), (1, true), (8, false), (8, true)] {
-            let answer = trial.give_blocks(&great_year(rates, spread, leaving).blocks());
-            assert!(answer.refused.is_none(), "a great year was refused");
-            assert!(answer.text.len() <= ROOM);
+            let blocks = great_year(rates, spread, leaving).blocks();
+            trial.expect(blocks.as_flattened(), None, "a great year");
         }
     }
     trial.finish();

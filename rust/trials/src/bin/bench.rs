@@ -3,17 +3,18 @@
 //! Both are timed in turn in every round, and a round's time is compared with the same round's. The lent bytes are
 //! not cleared between calls. Run it with `cargo run --release -p trials --bin bench`.
 
-use std::env;
 use std::fs;
 use std::hint::black_box;
 use std::io::Write;
-use std::path::{Path, PathBuf};
+use std::path::Path;
 use std::process::{Child, Command, Stdio};
 use std::thread::sleep;
 use std::time::{Duration, Instant};
 
+use prtr::Class;
 use trials::floats::{within, RANGES};
 use trials::layout::{Block, Post, BLOCK};
+use trials::program;
 use trials::rng::Rng;
 use trials::site::{Site, ROWS, WHOLE};
 use trials::year::{tens, Year};
@@ -104,6 +105,12 @@ fn inputs<I>(mut input: impl FnMut() -> I) -> Vec<I> {
     (0..INPUTS).map(|_| input()).collect()
 }
 
+/// A class as the library takes it and as the model does.
+fn any_class(rng: &mut Rng) -> (Class, u8) {
+    let class = rng.pick(&[Class::One, Class::Two]);
+    (class, class.into())
+}
+
 /// A form, a management number and four floats in their ranges.
 fn loss_input(rng: &mut Rng, form: u8) -> (u8, u16, [u64; 4]) {
     let floats = RANGES[form as usize - 1].map(|range| within(rng, range).to_bits());
@@ -112,12 +119,12 @@ fn loss_input(rng: &mut Rng, form: u8) -> (u8, u16, [u64; 4]) {
 
 fn bench_leaves() {
     let mut rng = Rng::new(1);
-    let contents = inputs(|| (rng.range(1, 2) as u8, rng.below(WHOLE as u64 + 1) as u32));
+    let contents = inputs(|| (any_class(&mut rng), rng.below(WHOLE as u64 + 1) as u32));
     bench_leaf(
         "counted",
         &contents,
-        |(class, ppm)| prtr::counted(class, ppm),
-        |(class, ppm)| model::counted(class, ppm),
+        |((class, _), ppm)| prtr::counted(class, ppm),
+        |((_, number), ppm)| model::counted(number, ppm),
     );
     let mut rate = Rng::new(2);
     let totals = inputs(|| {
@@ -133,12 +140,12 @@ fn bench_leaves() {
     let amounts = inputs(|| rng.size(u64::MAX));
     bench_leaf("step", &amounts, prtr::step, model::step);
     bench_leaf("figure", &amounts, prtr::figure, model::figure);
-    let handled = inputs(|| (rng.range(1, 2) as u8, rng.size(u64::MAX)));
+    let handled = inputs(|| (any_class(&mut rng), rng.size(u64::MAX)));
     bench_leaf(
         "due",
         &handled,
-        |(class, h)| prtr::due(class, h),
-        |(class, h)| model::due(class, h),
+        |((class, _), h)| prtr::due(class, h),
+        |((_, number), h)| model::due(number, h),
     );
 }
 
@@ -153,12 +160,6 @@ fn bench_losses() {
             |(form, number, [w, u, p, q])| model::loss(form, number, w, u, p, q),
         );
     }
-}
-
-/// The program: `PRTR_FILING`, or target/bin/filing at the repository's top.
-fn program() -> PathBuf {
-    let usual = Path::new(env!("CARGO_MANIFEST_DIR")).join("../../target/bin/filing");
-    env::var_os("PRTR_FILING").map_or(usual, PathBuf::from)
 }
 
 /// A line of /proc/PID/status, behind its name.
@@ -215,26 +216,33 @@ fn peak_of(program: &Path, journal: &[u8]) -> Option<u64> {
     most
 }
 
+/// The least and the most of the peaks over some journals; none where one can't be measured.
+fn peaks(program: &Path, journals: &[&[u8]]) -> Option<(u64, u64)> {
+    let peaks: Option<Vec<u64>> = journals
+        .iter()
+        .map(|journal| peak_of(program, journal))
+        .collect();
+    let peaks = peaks?;
+    Some((*peaks.iter().min()?, *peaks.iter().max()?))
+}
+
 fn bench_memory(years: &[Vec<Block>]) {
-    let program = program();
+    let program = program::path("filing");
     if !program.is_file() {
-        println!("\nmemory: there is no program target/bin/filing; `rt check filing` builds it");
+        let program = program.display();
+        println!("\nmemory: there is no program {program}; `rt check filing` builds it");
         return;
     }
     println!("\nmemory of the program filing, most kB before its input ends");
+    println!("{:<28} {:>12} {:>12}", "", "least peak", "most peak");
+    let years: Vec<&[u8]> = years.iter().map(|year| year.as_flattened()).collect();
     let rows = [
-        ("no bytes", 0),
-        ("one year", 1),
-        ("eleven years on end", years.len()),
+        ("no bytes", &[&[][..]][..]),
+        ("11 plants' years, each", &years),
     ];
-    for (name, count) in rows {
-        let journal: Vec<u8> = years[..count]
-            .iter()
-            .flat_map(|year| year.as_flattened())
-            .copied()
-            .collect();
-        match peak_of(&program, &journal) {
-            Some(most) => println!("{name:<28} {most:>12} kB for {} bytes", journal.len()),
+    for (name, journals) in rows {
+        match peaks(&program, journals) {
+            Some((least, most)) => println!("{name:<28} {least:>12} {most:>12}"),
             None => println!("{name:<28} not measured"),
         }
     }
@@ -244,8 +252,9 @@ fn main() {
     let years: Vec<Vec<Block>> = (1..=PLANTS).map(full_year).collect();
     for year in &years {
         let journal = year.as_flattened();
+        let text = prtr::filing(journal).expect("a year in balance is taken");
         assert_eq!(
-            prtr::filing(journal).as_bytes(),
+            text.as_bytes(),
             model::filing(journal),
             "both print the same"
         );

@@ -7,6 +7,34 @@
 #include <string.h>
 
 #define BLOCK 512
+#define FILL 0xc3
+
+/* A status by its name in the header; two equal names would not compile. */
+static const char *name(uint8_t status)
+{
+    switch (status) {
+    case 0: return "taken";
+    case PRTR_NOT_A_BLOCK: return "PRTR_NOT_A_BLOCK";
+    case PRTR_CHECK_SUM: return "PRTR_CHECK_SUM";
+    case PRTR_NOT_NEXT: return "PRTR_NOT_NEXT";
+    case PRTR_OUT_OF_TURN: return "PRTR_OUT_OF_TURN";
+    case PRTR_CLOSED: return "PRTR_CLOSED";
+    case PRTR_LAYOUT: return "PRTR_LAYOUT";
+    case PRTR_FLOAT: return "PRTR_FLOAT";
+    case PRTR_NO_ROW: return "PRTR_NO_ROW";
+    case PRTR_LOSS_LIMIT: return "PRTR_LOSS_LIMIT";
+    case PRTR_FULL: return "PRTR_FULL";
+    case PRTR_SHORT: return "PRTR_SHORT";
+    case PRTR_NO_SUBSTANCE: return "PRTR_NO_SUBSTANCE";
+    default: return "unknown";
+    }
+}
+
+static void names(void)
+{
+    for (uint8_t status = 0; status < 14; status++)
+        printf("status %u %s\n", status, name(status));
+}
 
 static void put(uint8_t *at, uint64_t value, int bytes)
 {
@@ -81,22 +109,22 @@ static void due(uint8_t class_, uint64_t handled)
 {
     uint8_t due = 9;
     uint8_t status = prtr_due(class_, handled, &due);
-    printf("F10 %u %" PRIu64 " status %u due %u\n", class_, handled, status, due);
+    printf("F10 %u %" PRIu64 " %s due %u\n", class_, handled, name(status), due);
 }
 
 static void counted(uint8_t class_, uint32_t ppm)
 {
     uint32_t counted = 99;
     uint8_t status = prtr_counted(class_, ppm, &counted);
-    printf("F11 %u %" PRIu32 " status %u counted %" PRIu32 "\n", class_, ppm, status, counted);
+    printf("F11 %u %" PRIu32 " %s counted %" PRIu32 "\n", class_, ppm, name(status), counted);
 }
 
-static void split(const char *name, uint64_t total, uint32_t removal, uint32_t destruction)
+static void split(const char *title, uint64_t total, uint32_t removal, uint32_t destruction)
 {
     uint64_t released = 99, destroyed = 99, residue = 99;
     uint8_t status = prtr_split(total, removal, destruction, &released, &destroyed, &residue);
-    printf("%s status %u released %" PRIu64 " destroyed %" PRIu64 " residue %" PRIu64 "\n",
-           name, status, released, destroyed, residue);
+    printf("%s %s released %" PRIu64 " destroyed %" PRIu64 " residue %" PRIu64 "\n",
+           title, name(status), released, destroyed, residue);
 }
 
 static void loss(uint8_t form, uint16_t number, double w, double u, double p, double q)
@@ -105,21 +133,33 @@ static void loss(uint8_t form, uint16_t number, double w, double u, double p, do
     const double floats[4] = {w, u, p, q};
     memcpy(bits, floats, sizeof bits);
     uint8_t status = prtr_loss(form, number, bits[0], bits[1], bits[2], bits[3], &micrograms);
-    printf("loss %u %u status %u micrograms %" PRIu64 "\n", form, number, status, micrograms);
+    printf("loss %u %u %s micrograms %" PRIu64 "\n", form, number, name(status), micrograms);
+}
+
+/* How many bytes of out, from its end, are as they were filled. */
+static size_t untouched(const uint8_t *out)
+{
+    size_t count = 0;
+    while (count < PRTR_ROOM && out[PRTR_ROOM - 1 - count] == FILL)
+        count++;
+    return count;
 }
 
 static void filing(const uint8_t *journal, size_t length)
 {
     uint8_t out[PRTR_ROOM];
-    size_t written = prtr_filing(journal, length, out, sizeof out);
+    memset(out, FILL, sizeof out);
+    size_t written = prtr_filing(journal, length, out, sizeof out - 1);
+    printf("too little room: %zu bytes, %zu untouched\n", written, untouched(out));
+    written = prtr_filing(journal, length, out, sizeof out);
     fwrite(out, 1, written, stdout);
-    printf("%zu bytes, and with less room %zu\n", written,
-           prtr_filing(journal, length, out, sizeof out - 1));
+    printf("%zu bytes, %zu untouched\n", written, untouched(out));
 }
 
 int main(void)
 {
     uint8_t journal[3 * BLOCK];
+    names();
     figures();
     due(1, 999999999999);
     due(1, 1000000000000);

@@ -1,0 +1,143 @@
+//! A list of calls as the program `replay` takes it, and the model's line for each.
+
+use std::fmt::Write;
+use std::ops::AddAssign;
+
+use model::{Book, Report};
+
+use crate::case::caught;
+
+/// How many calls of each kind were made, and how they were declined.
+#[derive(Clone, Debug, Default)]
+pub struct Counts {
+    /// Lists.
+    pub lists: u64,
+    /// Single posts.
+    pub posts: u64,
+    /// Blocks.
+    pub blocks: u64,
+    /// Reports.
+    pub reports: u64,
+    /// Calls declined by each number.
+    pub declines: [u64; 13],
+}
+
+impl AddAssign<&Counts> for Counts {
+    fn add_assign(&mut self, other: &Counts) {
+        self.lists += other.lists;
+        self.posts += other.posts;
+        self.blocks += other.blocks;
+        self.reports += other.reports;
+        for (count, more) in self.declines.iter_mut().zip(other.declines) {
+            *count += more;
+        }
+    }
+}
+
+/// A list of calls, each on the book that the one before it left.
+pub struct List {
+    /// For each call a tag, a length of 16 bits and that many bytes.
+    pub records: Vec<u8>,
+    /// What the program should print.
+    pub lines: String,
+    /// The calls so far.
+    pub counts: Counts,
+    book: Book,
+}
+
+impl List {
+    /// No call.
+    pub fn new() -> List {
+        List {
+            records: Vec::new(),
+            lines: String::new(),
+            counts: Counts {
+                lists: 1,
+                ..Counts::default()
+            },
+            book: Book::new(),
+        }
+    }
+
+    /// The number of the next block.
+    pub fn next_number(&self) -> u16 {
+        self.book.blocks()
+    }
+
+    /// A single post.
+    pub fn post(&mut self, bytes: &[u8]) {
+        self.counts.posts += 1;
+        let ask = |book: &mut Book| book.post(bytes).map(|()| "0".into());
+        self.call(b'P', bytes, "post", ask);
+    }
+
+    /// A block.
+    pub fn block(&mut self, bytes: &[u8]) {
+        self.counts.blocks += 1;
+        let ask = |book: &mut Book| book.block(bytes).map(|()| "0".into());
+        self.call(b'B', bytes, "block", ask);
+    }
+
+    /// A report of the substance at a place.
+    pub fn report(&mut self, place: u8) {
+        self.counts.reports += 1;
+        let ask = |book: &mut Book| book.report(place.into()).map(|report| fields(&report));
+        self.call(b'R', &[place], &format!("report {place}"), ask);
+    }
+
+    /// A report of each substance, and of the place behind the last.
+    pub fn reports(&mut self) {
+        (0..=self.book.substances() as u8).for_each(|place| self.report(place));
+    }
+
+    fn call(
+        &mut self,
+        tag: u8,
+        bytes: &[u8],
+        name: &str,
+        ask: impl FnOnce(&mut Book) -> Result<String, u8>,
+    ) {
+        self.records.push(tag);
+        self.records.extend((bytes.len() as u16).to_le_bytes());
+        self.records.extend(bytes);
+        let answer = match caught(|| ask(&mut self.book)) {
+            Ok(Ok(fields)) => fields,
+            Ok(Err(number)) => {
+                self.counts.declines[usize::from(number)] += 1;
+                number.to_string()
+            }
+            Err(words) => format!("the model panicked: {words}"),
+        };
+        writeln!(self.lines, "{name} {answer}").expect("a string takes all");
+    }
+}
+
+impl Default for List {
+    fn default() -> List {
+        List::new()
+    }
+}
+
+/// A report's fields in the program's order, the amounts in micrograms.
+fn fields(report: &Report) -> String {
+    let due = if report.due { 'Y' } else { 'N' };
+    let mut line = format!(
+        "{} {} {} {due}",
+        report.posts, report.number, report.handled
+    );
+    let amounts = [
+        report.store,
+        report.held,
+        report.shipped,
+        report.consumed,
+        report.destroyed,
+    ];
+    let figures = report.figures.into_iter().flatten();
+    for amount in amounts.into_iter().chain(report.headings).chain(figures) {
+        write!(line, " {amount}").expect("a string takes all");
+    }
+    if report.figures.is_none() {
+        line.push_str(" - - - - - -");
+    }
+    line
+}

@@ -1,0 +1,36 @@
+//! Posts that come about when 4,000 are accepted.
+
+use crate::layout::Post;
+use crate::ledger::MOST_GRAMS;
+use crate::rng::Rng;
+use crate::year::Year;
+
+/// The posts of a year that is one short of the limit.
+pub const ONE_SHORT: usize = 3_999;
+
+/// The 4,000th post, or two, and what comes behind.
+pub fn last_posts(rng: &mut Rng, year: &Year) -> Vec<Post> {
+    let count = rng.range(1, 3);
+    let mut posts = vec![year.ledger.entered(rng)];
+    posts.extend((0..count).map(|_| any_last(rng, year)));
+    posts
+}
+
+/// A close, a post that would be taken, or one with a fault that is found before or behind the limit.
+pub fn any_last(rng: &mut Rng, year: &Year) -> Post {
+    let holding = year.ledger.any_holding(rng);
+    let all = Post::left(5, holding, 1_000_000, MOST_GRAMS);
+    let mut close = Post::CLOSE;
+    match rng.below(10) {
+        0 | 1 => {}
+        2 => close.quantity = 1,
+        3 => close.floats[0] = 1,
+        4 => return Post::left(5, holding, 1_000_001, 1),
+        5 => return Post::vapour(1, holding, [0; 4]),
+        6 => return Post::vapour(1, holding, [14f64.to_bits(), 0, 0, 0]),
+        7 => return Post::vapour(3, holding, [1e9f64.to_bits(); 4]),
+        8 => return all,
+        _ => return year.ledger.entered(rng),
+    }
+    close
+}
