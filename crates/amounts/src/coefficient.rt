@@ -57,7 +57,7 @@ const ROWS: [Entry; 5] = [
     },
 ];
 
-// The row of a number. All rows are gone through, the first last, so that no branch depends on the number.
+// The row of a number. All rows are gone through, the first last, which a compiler does without a jump for each.
 pub fn row_of(number: u16) -> Found
     ensures { λ r. ⌜ answer r ≡ rowOf number ⌝ }
 {
