@@ -5,12 +5,12 @@ use mathlib.Core.List.{List, [], _∷_, _++_}
 use Prim.Native.Nat.{ℕ, zero, suc, _+_, _*_, _^_, _≤_, _<_, min}
 use native.Mathlib.Nat.{min-le-right}
 use native.Mathlib.Omega.{arith}
-use borrow.Author.Tests.{eqb-true, eqb-false, eq-eqb, ne-eqb, ltb-true}
-use lib.Dec.{eqb, ltb}
+use borrow.Author.Tests.{eqb-true, eqb-false, eq-eqb, ne-eqb}
+use lib.Dec.{eqb}
 use lib.ListN.{length, getD, length-append}
-use Rattle.amounts.specs.Decline.{Answer, taken, declined, checked, isTaken, valueOr, unknown}
+use Rattle.amounts.specs.Decline.{Answer, taken, declined, checked, isTaken, valueOr}
 use Rattle.amounts.specs.Filed.{filedOf}
-use Rattle.amounts.proofs.decline.Laws.{was-taken, one-taken}
+use Rattle.amounts.proofs.decline.Laws.{was-taken}
 use Rattle.layout.specs.Each.{sumTo, listTo}
 use Rattle.layout.specs.Outline.{mayPost}
 use Rattle.layout.specs.Post.{postAt}
@@ -22,11 +22,10 @@ use Rattle.layout.proofs.setup.Laws.{within-true}
 use Rattle.book.specs.Entered.{enters, handles}
 use Rattle.book.specs.Posting.{postOn}
 use Rattle.book.specs.Posts.{postIn, postsOn, withBlock}
-use Rattle.book.specs.Report.{mapHeadings, filingOf, reportAt, reportOf}
+use Rattle.book.specs.Report.{mapHeadings, filingOf, reportAt}
 use Rattle.book.specs.Setup.{setUpOn, withSetup}
 use Rattle.book.specs.Site.{Sound, content, freshBook}
 use Rattle.book.specs.Stage.{describedOn, withStage}
-use Rattle.book.specs.declared.report.Report.{Report}
 use Rattle.book.specs.declared.site.Book.{Book}
 use Rattle.book.proofs.posting.Checks.{AllPass, passed, post-was-taken}
 use Rattle.book.proofs.posting.Laws.{handled-few}
@@ -311,13 +310,6 @@ first [] b h z l = absurd (omega arith)
 first (call ∷ calls) b h z l = first-call b call calls h z (first calls) (answerTo b call) refl l
 
 -- ---- the report
-
--- a report is of a substance that the book has
-pub report-taken : (b : Book) (s : ℕ) (r : Report) → reportOf b s ≡ taken r → (s < b .setup .outline .substances) × (r ≡ reportAt b s)
-unfolding reportOf
-report-taken b s r e =
-    let z = one-taken (ltb s (b .setup .outline .substances)) unknown (reportAt b s) r (sym e) in
-    (ltb-true s (b .setup .outline .substances) (z .0), z .1)
 
 -- nothing came in before
 from-none : (x y z t : ℕ) → x ≡ y + z → y ≡ 0 → t ≡ x → z ≡ t

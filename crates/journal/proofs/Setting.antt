@@ -8,13 +8,13 @@ use native.Mathlib.Omega.{arith}
 use borrow.Author.Tests.{eq-eqb, ne-eqb}
 use lib.Dec.{eqb}
 use lib.ListN.{length, getD, drop, set}
-use lib.Seq.{drop-nil, getD-set-same, getD-set-other}
-use Rattle.layout.specs.Bytes.{le}
+use lib.Seq.{getD-set-same, getD-set-other}
 use Rattle.layout.specs.Each.{putTo}
 use Rattle.layout.specs.Setup.{noRates, numbersIn, classesIn, contentsIn, countedAll, setupOf}
-use Rattle.layout.specs.Stage.{ratesAt, rateRow}
+use Rattle.layout.specs.Stage.{rateRow}
 use Rattle.layout.specs.declared.setup.Setup.{Setup}
 use Rattle.layout.proofs.Each.{put-at, put-other}
+use Rattle.layout.proofs.stage.Laws as stage-laws
 use Rattle.book.specs.Site.{SoundSetup}
 use Rattle.book.specs.Stage.{withStage}
 use Rattle.book.proofs.site.Laws.{same-at}
@@ -54,8 +54,7 @@ stage-none n = refl
 
 -- no bytes are no rates
 no-row : (s : ℕ) → rateRow (drop 2 []) s ≡ noRates
-unfolding ratesAt le
-no-row s = rw (drop-nil {A = ℕ} (s * 17))
+no-row s = sym (stage-laws.no-row (s * 17) [] (omega arith))
 
 -- ---- a set-up by the bytes of its blocks
 

@@ -89,10 +89,6 @@ module _ {A : Type 0} where
   set-keeps P d (x ∷ l) (suc i) v h w (suc j) = set-keeps P d l i v (λ k. h (suc k)) w j
 
   module _ (place : ℕ → ℕ) (f : ℕ → A) (l : List A) where
-    pub put-none : putTo place f l 0 ≡ l
-    unfolding putTo
-    put-none = refl
-
     pub put-again : (n : ℕ) (out : List A) (v : A) → out ≡ putTo place f l n → v ≡ f n → set out (place n) v ≡ putTo place f l (n + 1)
     unfolding putTo
     put-again n out v e w = rw (add-one, e, w)

@@ -9,7 +9,7 @@ use lib.Dec.{leb, lit<, lit≤}
 use borrow.Author.Tests.{lt-ltb, le-ltb, le-leb, lt-leb, leb-true, leb-false}
 use Rattle.amounts.specs.Filed.{largestPower, stepOf, halfUp, filedOf}
 
-either : (a b : ℕ) → (a ≤ b) ⊎ (b < a)
+pub either : (a b : ℕ) → (a ≤ b) ⊎ (b < a)
 either a b = go (leb a b) refl
   where
     go : (t : Bool) → leb a b ≡ t → (a ≤ b) ⊎ (b < a)

@@ -94,10 +94,6 @@ filing-is s = fed-text freshBook (partsOf s) sound-fresh
 
 -- ---- printing
 
-pub lines-none : (b : Book) → linesTo b 0 ≡ []
-unfolding linesTo
-lines-none b = refl
-
 pub lines-more : (b : Book) (n : ℕ) (r : Report) → r ≡ reportAt b n → linesTo b n ++ lineText r ≡ linesTo b (n + 1)
 unfolding linesTo
 lines-more b n r e = rw (e, add-one)

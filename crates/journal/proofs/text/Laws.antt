@@ -1,6 +1,6 @@
 -- A run of writes is one write of the joined text; how long the texts are. Assumes nothing.
 use mathlib.Core.Path.{_≡_, refl, sym, ap, subst, _∙_}
-use mathlib.Core.Logic.{_⊎_, inl, inr}
+use mathlib.Core.Logic.{inl, inr}
 use mathlib.Core.Bool.{Bool, true, false, not, cond}
 use mathlib.Core.List.{List, [], _∷_, _++_, append-assoc, append-nil}
 use Prim.Native.Nat.{ℕ, zero, suc, _+_, _-_, _/_, _%_, _^_, _≤_, _<_}
@@ -10,20 +10,14 @@ use native.Mathlib.Omega.{arith}
 use lib.Dec.{ltb, leb, lit<}
 use lib.ListN.{length, take, drop, getD, set, length-append, length-drop, replicate, length-replicate, take-append-drop}
 use lib.Seq.{take-at, drop-at, drop-drop, length-take-le, set-split, append-snoc, take-length, paste, paste-suc}
-use borrow.Author.Tests.{lt-ltb, le-ltb, le-leb, lt-leb, leb-true, leb-false, not-true, not-false}
+use borrow.Author.Tests.{lt-ltb, le-ltb, le-leb, lt-leb, leb-true, not-true, not-false}
 use Rattle.book.specs.declared.report.Filing.{Filing}
 use Rattle.book.specs.declared.report.Filing.the-variants.{Figures, NotDue}
 use Rattle.book.specs.declared.report.Report.{Report}
+use Rattle.amounts.proofs.filed.Laws.{either}
 use Rattle.journal.specs.Text.{space, lineFeed, digit, digitsTo, decimal, yesNo, figureText, filingText, lineText, refusedText}
 use Rattle.journal.specs.declared.text.Written.the-variants.{At, NoRoom}
 use Rattle.journal.specs.Writing.{written, Room, Puts, triedIn, triedAnswer, Tries}
-
-either : (a b : ℕ) → (a ≤ b) ⊎ (b < a)
-either a b = go (leb a b) refl
-  where
-    go : (t : Bool) → leb a b ≡ t → (a ≤ b) ⊎ (b < a)
-    go true e = inl (leb-true a b e)
-    go false e = inr (leb-false a b e)
 
 -- ---- writes
 
@@ -226,32 +220,3 @@ module _ (free : ℕ) (l : List ℕ) (at : ℕ) (a : List ℕ) (b : Bool) (e : b
   pub tries-at : {m : List ℕ} {r : ℕ} → not b ≡ false → Puts l at a m r → Tries free l at a m (At r)
   unfolding triedIn triedAnswer
   tries-at h p = let k = sym e ∙ not-false b h in record { text-in = rw k (p .text-in); answer = rw k (ap At (p .next)) }
-
--- what an answer says
-module _ {free : ℕ} {l : List ℕ} {at : ℕ} {a m : List ℕ} where
-  pub tried-at : {r : ℕ} → Tries free l at a m (At r) → (at + free ≤ length l) × Puts l at a m r
-  unfolding triedIn triedAnswer
-  tried-at {r = r} p =
-      elim (either (at + free) (length l)) [
-        | inl h ↦
-            let k = le-leb (at + free) (length l) h in
-            let q : At r ≡ At (at + length a) = rw k at (p .answer) in
-            (h, record { text-in = rw k at (p .text-in); next = cc })
-        | inr h ↦
-            let k = lt-leb (at + free) (length l) h in
-            let q : At r ≡ NoRoom = rw k at (p .answer) in
-            let z : _≡_ {A = ℕ} 0 1 = cc in
-            absurd (omega arith)
-      ]
-
-  pub tried-none : Tries free l at a m NoRoom → (length l < at + free) × (m ≡ l)
-  unfolding triedIn triedAnswer
-  tried-none p =
-      elim (either (at + free) (length l)) [
-        | inl h ↦
-            let k = le-leb (at + free) (length l) h in
-            let q : NoRoom ≡ At (at + length a) = rw k at (p .answer) in
-            let z : _≡_ {A = ℕ} 0 1 = cc in
-            absurd (omega arith)
-        | inr h ↦ (h, rw (lt-leb (at + free) (length l) h) at (p .text-in))
-      ]
