@@ -53,7 +53,6 @@ pub fn fresh() -> Book
 
 // How many blocks the book has taken, which is the number of the next.
 pub fn block_number(b: Book) -> u32
-    requires { ⌜ Sound b ⌝ }
     ensures { λ r. ⌜ r ≡ b .blocks ⌝ }
 {
     b.blocks
