@@ -36,7 +36,9 @@ at-two-requires c κs = search needs
 add-t12 : tie.Need-add-t12
 add-t12 c =
     let k = c .before .before .before .before .before .before .before .before .before in
-    omega (arith, gas k, water k, k .before .before .pre .0, c .before .at-two .ensures, one-or-two (k .before .before .args .residue-to) (k .before .parts-of .result .residue + k .parts-of2 .result .residue))
+    let s = k .before .before in
+    let residue = k .before .parts-of .result .residue + k .parts-of2 .result .residue in
+    omega (arith, gas k, water k, s .pre .0, c .before .at-two .ensures, one-or-two (s .args .residue-to) residue)
 
 at-two-requires-2 : tie.Need-at-two-requires-2
 at-two-requires-2 c κs = search needs
@@ -47,7 +49,9 @@ at-one-requires-2 c κs = search needs
 add-t15 : tie.Need-add-t15
 add-t15 c =
     let k = c .before .before .before .before .before .before .before .before .before .before .before .before in
-    omega (arith, gas k, water k, k .before .before .pre .0, c .before .at-one2 .ensures, one-or-two (k .before .before .args .residue-to) (k .before .parts-of .result .residue + k .parts-of2 .result .residue))
+    let s = k .before .before in
+    let residue = k .before .parts-of .result .residue + k .parts-of2 .result .residue in
+    omega (arith, gas k, water k, s .pre .0, c .before .at-one2 .ensures, one-or-two (s .args .residue-to) residue)
 
 returns : tie.Need-returns
 returns c =

@@ -52,7 +52,7 @@ returns-2 c =
     let s = start k in
     let a = s .args in
     let u = setupOf (a .count) (now (a .body)) in
-    grants Sound (a .b) (withSetup (a .b) u) (withSetup (a .b) (c .before .parse .result)) (setupChecks (a .b .setup .outline) (a .count) (now (a .body)))
+    grants Sound _ (withSetup (a .b) u) _ (setupChecks (a .b .setup .outline) (a .count) (now (a .body)))
     (sym (k .enum-told .given .1) ∙ k .before .before .check-setup .ensures)
     (ap (λ (x : Setup). withSetup (a .b) x) (c .before .parse .ensures))
     (sound-set-up (a .b) (a .count) (now (a .body)) (s .pre) (taken k))

@@ -105,7 +105,7 @@ returns-2 c =
     let body = now (a .body) in
     let u = a .b .setup in
     let read = c .before .before .before .before .rates-into .ensures ∙ ap (λ (l : List ℕ). putTo (λ i. a .stage * 8 + i) (rateRow l) (u .rates) (u .outline .substances)) (tail-is 2 body) in
-    grants Sound (a .b) (withSetup (a .b) (withStage u (a .stage) body)) (withSetup (a .b) (staged u (a .stage) body (c .before .before .before .before .rates-into .result))) (stageChecks (u .outline) (a .stage) body)
+    grants Sound _ (withSetup (a .b) (withStage u (a .stage) body)) _ (stageChecks (u .outline) (a .stage) body)
     (sym (k .enum-told .given .1) ∙ k .before .before .check-stage .ensures)
     (ap (λ (l : List Rates). withSetup (a .b) (staged u (a .stage) body l)) read)
     (sound-described (a .b) (a .stage) body (s .pre) (taken k))

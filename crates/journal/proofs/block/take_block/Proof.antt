@@ -15,9 +15,9 @@ start c = c .before .before .before .before .before
 
 long : (c : tie.After-enum-told) → length (now (start c .args .s)) ≡ 512
 long c =
-    let k = c .before .before in
+    let f = c .before .before in
     let a = start c .args in
-    frame-long (a .b) (now (a .s)) _ _ (k .before .block-number .ensures) (k .check-frame .ensures) (c .enum-told .given .1)
+    frame-long (a .b) (now (a .s)) _ _ (f .before .block-number .ensures) (f .check-frame .ensures) (c .enum-told .given .1)
 
 block-number-requires : tie.Need-block-number-requires
 block-number-requires c κs = search needs
@@ -30,8 +30,8 @@ enum-known-d c = search needs
 
 returns : tie.Need-returns
 returns c =
-    let k = c .before .before .before in
-    stays Sound _ _ _ _ (frame-fails _ _ _ _ (k .before .block-number .ensures) (k .check-frame .ensures) _ (c .before .d .given .1)) refl (k .before .before .before .pre)
+    let f = c .before .before .before in
+    stays Sound _ _ _ _ (frame-fails _ _ _ _ (f .before .block-number .ensures) (f .check-frame .ensures) _ (c .before .d .given .1)) refl (f .before .before .before .pre)
 
 enum-told : tie.Need-enum-told
 enum-told c = search needs
@@ -57,7 +57,8 @@ set-up-requires c κs = search needs
 returns-2 : tie.Need-returns-2
 returns-2 c =
     let k = c .before .before .before .before .before in
-    let e = sets-up _ _ _ _ (k .before .before .before .block-number .ensures) (k .before .before .check-frame .ensures) (k .enum-told .given .1) (c .before .if1 .taken) in
+    let f = k .before .before in
+    let e = sets-up _ _ _ _ (f .before .block-number .ensures) (f .check-frame .ensures) (k .enum-told .given .1) (c .before .if1 .taken) in
     (c .set-up .ensures .0 ∙ ap (outcome (start k .args .b)) (sym e), c .set-up .ensures .1)
 
 describe-requires : tie.Need-describe-requires
@@ -66,7 +67,8 @@ describe-requires c κs = search needs
 returns-3 : tie.Need-returns-3
 returns-3 c =
     let k = c .before .before .before .before .before .before in
-    let e = describes _ _ _ _ (k .before .before .before .block-number .ensures) (k .before .before .check-frame .ensures) (k .enum-told .given .1) (c .before .before .if1 .left) (c .before .if2 .taken) in
+    let f = k .before .before in
+    let e = describes _ _ _ _ (f .before .block-number .ensures) (f .check-frame .ensures) (k .enum-told .given .1) (c .before .before .if1 .left) (c .before .if2 .taken) in
     (c .describe .ensures .0 ∙ ap (outcome (start k .args .b)) (sym e), c .describe .ensures .1)
 
 take-posts-requires : tie.Need-take-posts-requires
@@ -75,7 +77,8 @@ take-posts-requires c κs = search needs
 returns-4 : tie.Need-returns-4
 returns-4 c =
     let k = c .before .before .before .before .before .before in
-    let e = posts _ _ _ _ (k .before .before .before .block-number .ensures) (k .before .before .check-frame .ensures) (k .enum-told .given .1) (c .before .before .if1 .left) (c .before .if2 .left) in
+    let f = k .before .before in
+    let e = posts _ _ _ _ (f .before .block-number .ensures) (f .check-frame .ensures) (k .enum-told .given .1) (c .before .before .if1 .left) (c .before .if2 .left) in
     (c .take-posts .ensures .0 ∙ ap (outcome (start k .args .b)) (sym e), c .take-posts .ensures .1)
 
 pub take-block-spec : {M : Type 1} → statement M

@@ -28,7 +28,9 @@ same-length : tie.Need-same-length
 same-length c = search needs
 
 returns-2 : tie.Need-returns-2
-returns-2 c = prints-return _ _ (c .before .before .before .before .before .before .before .if1 .left) _ _ (c .before .before .before .before .enum-told .given .1) (c .before .before .put-return .ensures)
+returns-2 c =
+    let told = c .before .before .before .before in
+    prints-return _ _ (told .before .before .before .if1 .left) _ _ (told .enum-told .given .1) (c .before .before .put-return .ensures)
 
 same-length-2 : tie.Need-same-length-2
 same-length-2 c = search needs
