@@ -33,29 +33,50 @@ part-fits size i n long h g =
 
 -- ---- a turn
 
-module _ (b : Book) (posts : ℕ → List ℕ) (h : Sound b) (i : ℕ) (c : Book) (so-far : takenTo b posts i ≡ taken c) where
+-- the book given in, its posts, how many of them are taken, and the book so far
+pub record Turn : Type 0 where
+  pub given : Book
+  pub posts : ℕ → List ℕ
+  pub sound : Sound given
+  pub place : ℕ
+  pub book : Book
+  pub so-far : takenTo given posts place ≡ taken book
+
+module _ (t : Turn) where
+  abbrev b : Book
+  b = t .given
+
+  abbrev c : Book
+  c = t .book
+
+  abbrev bytes : List ℕ
+  bytes = t .posts (t .place)
+
+  abbrev next : Answer Book
+  next = takenTo b (t .posts) (t .place + 1)
+
   -- the next post, by the set-up of the book given in
   abbrev pub tried : Answer Reading
-  tried = admitted (b .setup .outline) (b .setup .numbers) (c .closed) (c .posts) (c .store) (c .sums) (posts i)
+  tried = admitted (b .setup .outline) (b .setup .numbers) (c .closed) (c .posts) (c .store) (c .sums) bytes
 
   same-setup : c .setup ≡ b .setup
-  same-setup = many-taken b c posts i h so-far .same-setup
+  same-setup = many-taken b c (t .posts) (t .place) (t .sound) (t .so-far) .same-setup
 
   still-sound : Sound c
-  still-sound = many-taken b c posts i h so-far .sound
+  still-sound = many-taken b c (t .posts) (t .place) (t .sound) (t .so-far) .sound
 
-  as-tried : admitted (c .setup .outline) (c .setup .numbers) (c .closed) (c .posts) (c .store) (c .sums) (posts i) ≡ tried
-  as-tried = ap (λ (u : Setup). admitted (u .outline) (u .numbers) (c .closed) (c .posts) (c .store) (c .sums) (posts i)) same-setup
+  as-tried : admitted (c .setup .outline) (c .setup .numbers) (c .closed) (c .posts) (c .store) (c .sums) bytes ≡ tried
+  as-tried = ap (λ (u : Setup). admitted (u .outline) (u .numbers) (c .closed) (c .posts) (c .store) (c .sums) bytes) same-setup
 
-  pub turn-declined : (n : ℕ) → tried ≡ declined n → takenTo b posts (i + 1) ≡ declined n
-  turn-declined n e = taken-next b posts i c so-far ∙ not-admitted c (posts i) n (as-tried ∙ e)
+  pub turn-declined : (n : ℕ) → tried ≡ declined n → next ≡ declined n
+  turn-declined n e = taken-next b (t .posts) (t .place) c (t .so-far) ∙ not-admitted c bytes n (as-tried ∙ e)
 
   module _ (r : Reading) (e : tried ≡ taken r) where
     turn-applies : Applies c (r .post) (r .amount)
-    turn-applies = admitted-applies c (posts i) still-sound r (as-tried ∙ e)
+    turn-applies = admitted-applies c bytes still-sound r (as-tried ∙ e)
 
-    turn-taken : takenTo b posts (i + 1) ≡ taken (applied c (r .post) (r .amount))
-    turn-taken = taken-next b posts i c so-far ∙ was-admitted c (posts i) r (as-tried ∙ e)
+    turn-taken : next ≡ taken (applied c (r .post) (r .amount))
+    turn-taken = taken-next b (t .posts) (t .place) c (t .so-far) ∙ was-admitted c bytes r (as-tried ∙ e)
 
     pub few-posts : c .posts ≤ 4000
     few-posts = still-sound .while-open (turn-applies .is-open)
@@ -65,7 +86,7 @@ module _ (b : Book) (posts : ℕ → List ℕ) (h : Sound b) (i : ℕ) (c : Book
     may-settle = (λ s hs. omega (arith, few-posts, total-few c still-sound s hs), still-sound .sums-long)
 
     pub turn-closed : r .post .kind ≡ 13 → (sums : List ℕ) → sums ≡ settled (c .sums) (b .setup .rates) 64
-        → takenTo b posts (i + 1) ≡ taken (withPost c (c .store) sums (c .handled) true)
+        → next ≡ taken (withPost c (c .store) sums (c .handled) true)
     turn-closed k sums w =
         let closes = applied-close c (r .post) (r .amount) (omega arith) in
         let same = ap (λ (u : Setup). settled (c .sums) (u .rates) 64) same-setup in
@@ -103,7 +124,7 @@ module _ (b : Book) (posts : ℕ → List ℕ) (h : Sound b) (i : ℕ) (c : Book
       pub turn-entered : (store sums handled : List ℕ) → store ≡ storeAfter (c .store) (r .post)
           → sums ≡ sumsAfter (c .sums) (b .setup .counted) (r .post) (r .amount)
           → handled ≡ handledAfter (c .handled) (b .setup .counted) (r .post) (r .amount)
-          → takenTo b posts (i + 1) ≡ taken (withPost c store sums handled (c .closed))
+          → next ≡ taken (withPost c store sums handled (c .closed))
       turn-entered store sums handled x y z =
           let p = r .post in
           let n = r .amount in

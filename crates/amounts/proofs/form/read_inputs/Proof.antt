@@ -1,23 +1,43 @@
 use mathlib.Core.Bool.{true}
 use mathlib.Core.Path.{_≡_}
+use Prim.Native.Nat.{ℕ}
+use lib.Ieee.{Float}
 use borrow.Author.Needs.{needs}
 use Rattle.amounts.specs.Pattern.{inRange}
 use Rattle.amounts.specs.Form.{inputsOf}
+use Rattle.amounts.specs.declared.pattern.Range.{Range}
 use Rattle.amounts.specs.Binary64.{valueOf}
 use Rattle.amounts.proofs.pattern.Laws.{read, refused}
 use Rattle.amounts.proofs.form.read_inputs.Statement.{statement}
 use Rattle.amounts.proofs.form.read_inputs.Tie as tie
 
-w-in : (c : tie.After-known-told) → (inRange (c .before .before .before .before .args .ranges .w) (valueOf (c .before .before .before .before .args .w)) ≡ true) × (c .before .wx .given .0 .0 ≡ valueOf (c .before .before .before .before .args .w))
+-- the start, after each float is read
+abbrev start1 : tie.After-known-told → tie.Start
+start1 c = c .before .before .before .before
+
+abbrev start2 : tie.After-known-told2 → tie.Start
+start2 c = start1 (c .before .before .before .before)
+
+abbrev start3 : tie.After-known-told3 → tie.Start
+start3 c = start2 (c .before .before .before .before)
+
+abbrev start4 : tie.After-known-told4 → tie.Start
+start4 c = start3 (c .before .before .before .before)
+
+-- the bits' value is in the range and is the float read
+abbrev In : Range → ℕ → Float → Type 0
+In range bits x = (inRange range (valueOf bits) ≡ true) × (x ≡ valueOf bits)
+
+w-in : (c : tie.After-known-told) → let a = start1 c .args in In (a .ranges .w) (a .w) (c .before .wx .given .0 .0)
 w-in c = read _ _ _ _ (c .before .before .before .read-float .ensures) (c .before .wx .given .1)
 
-u-in : (c : tie.After-known-told2) → (inRange (c .before .before .before .before .before .before .before .before .args .ranges .u) (valueOf (c .before .before .before .before .before .before .before .before .args .u)) ≡ true) × (c .before .ux .given .0 .0 ≡ valueOf (c .before .before .before .before .before .before .before .before .args .u))
+u-in : (c : tie.After-known-told2) → let a = start2 c .args in In (a .ranges .u) (a .u) (c .before .ux .given .0 .0)
 u-in c = read _ _ _ _ (c .before .before .before .read-float2 .ensures) (c .before .ux .given .1)
 
-p-in : (c : tie.After-known-told3) → (inRange (c .before .before .before .before .before .before .before .before .before .before .before .before .args .ranges .p) (valueOf (c .before .before .before .before .before .before .before .before .before .before .before .before .args .p)) ≡ true) × (c .before .px .given .0 .0 ≡ valueOf (c .before .before .before .before .before .before .before .before .before .before .before .before .args .p))
+p-in : (c : tie.After-known-told3) → let a = start3 c .args in In (a .ranges .p) (a .p) (c .before .px .given .0 .0)
 p-in c = read _ _ _ _ (c .before .before .before .read-float3 .ensures) (c .before .px .given .1)
 
-q-in : (c : tie.After-known-told4) → (inRange (c .before .before .before .before .before .before .before .before .before .before .before .before .before .before .before .before .args .ranges .q) (valueOf (c .before .before .before .before .before .before .before .before .before .before .before .before .before .before .before .before .args .q)) ≡ true) × (c .before .qx .given .0 .0 ≡ valueOf (c .before .before .before .before .before .before .before .before .before .before .before .before .before .before .before .before .args .q))
+q-in : (c : tie.After-known-told4) → let a = start4 c .args in In (a .ranges .q) (a .q) (c .before .qx .given .0 .0)
 q-in c = read _ _ _ _ (c .before .before .before .read-float4 .ensures) (c .before .qx .given .1)
 
 read-float-requires : tie.Need-read-float-requires
@@ -57,7 +77,10 @@ enum-told-3 c = search needs
 
 returns-3 : tie.Need-returns-3
 unfolding inputsOf
-returns-3 c = rw (w-in (c .before .before .before .before .before .before .before) .0, u-in (c .before .before .before) .0, refused _ _ _ _ (c .before .before .read-float3 .ensures) (c .enum-told3 .given .1))
+returns-3 c =
+    let u = c .before .before .before in
+    let w = u .before .before .before .before in
+    rw (w-in w .0, u-in u .0, refused _ _ _ _ (c .before .before .read-float3 .ensures) (c .enum-told3 .given .1))
 
 read-float-requires-4 : tie.Need-read-float-requires-4
 read-float-requires-4 c κs = search needs
@@ -70,11 +93,19 @@ enum-told-4 c = search needs
 
 returns-4 : tie.Need-returns-4
 unfolding inputsOf
-returns-4 c = rw (w-in (c .before .before .before .before .before .before .before .before .before .before .before) .0, u-in (c .before .before .before .before .before .before .before) .0, p-in (c .before .before .before) .0, refused _ _ _ _ (c .before .before .read-float4 .ensures) (c .enum-told4 .given .1))
+returns-4 c =
+    let p = c .before .before .before in
+    let u = p .before .before .before .before in
+    let w = u .before .before .before .before in
+    rw (w-in w .0, u-in u .0, p-in p .0, refused _ _ _ _ (c .before .before .read-float4 .ensures) (c .enum-told4 .given .1))
 
 returns-5 : tie.Need-returns-5
 unfolding inputsOf
-returns-5 c = rw (w-in (c .before .before .before .before .before .before .before .before .before .before .before .before) .0, u-in (c .before .before .before .before .before .before .before .before) .0, p-in (c .before .before .before .before) .0, q-in c .0, w-in (c .before .before .before .before .before .before .before .before .before .before .before .before) .1, u-in (c .before .before .before .before .before .before .before .before) .1, p-in (c .before .before .before .before) .1, q-in c .1)
+returns-5 c =
+    let p = c .before .before .before .before in
+    let u = p .before .before .before .before in
+    let w = u .before .before .before .before in
+    rw (w-in w .0, u-in u .0, p-in p .0, q-in c .0, w-in w .1, u-in u .1, p-in p .1, q-in c .1)
 
 pub read-inputs-spec : {M : Type 1} → statement M
 read-inputs-spec =

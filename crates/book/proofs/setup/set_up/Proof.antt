@@ -10,9 +10,12 @@ use borrow.Author.Needs.{needs}
 use Rattle.book.proofs.setup.set_up.Statement.{statement}
 use Rattle.book.proofs.setup.set_up.Tie as tie
 
-taken : (c : tie.After-enum-told) → let a = c .before .before .before .before .before .before .args in Accepts (a .b .setup .outline) (a .count) (now (a .body))
+abbrev start : tie.After-enum-told → tie.Start
+start c = c .before .before .before .before .before .before
+
+taken : (c : tie.After-enum-told) → let a = start c .args in Accepts (a .b .setup .outline) (a .count) (now (a .body))
 taken c =
-    let a = c .before .before .before .before .before .before .args in
+    let a = start c .args in
     accepted (a .b .setup .outline) (a .count) (now (a .body)) (sym (c .enum-told .given .1) ∙ c .before .before .check-setup .ensures)
 
 check-setup-requires : tie.Need-check-setup-requires
@@ -36,18 +39,20 @@ add-c c = search needs
 returns : tie.Need-returns
 unfolding setUpOn
 returns c =
-    let a = c .before .before .before .before .before .before .before .before .args in
-    refuses Sound (a .b) (withSetup (a .b) (setupOf (a .count) (now (a .body)))) (setupChecks (a .b .setup .outline) (a .count) (now (a .body)))
-    (c .before .before .before .before .check-setup .result) (c .before .before .d .given .0 .0) (c .declined .result) (c .before .before .before .before .check-setup .ensures) (c .before .before .d .given .1) (c .declined .ensures) (c .before .before .before .before .before .before .before .before .pre)
+    let k = c .before .before .before .before in
+    let s = k .before .before .before .before in
+    let a = s .args in
+    refuses Sound _ (withSetup (a .b) (setupOf (a .count) (now (a .body)))) (setupChecks (a .b .setup .outline) (a .count) (now (a .body)))
+    _ _ _ (k .check-setup .ensures) (c .before .before .d .given .1) (c .declined .ensures) (s .pre)
 
 returns-2 : tie.Need-returns-2
 unfolding setUpOn
 returns-2 c =
     let k = c .before .before in
-    let s = k .before .before .before .before .before .before in
+    let s = start k in
     let a = s .args in
     let u = setupOf (a .count) (now (a .body)) in
-    grants Sound (a .b) (withSetup (a .b) u) (withSetup (a .b) (c .before .parse .result)) (setupChecks (a .b .setup .outline) (a .count) (now (a .body)))
+    grants Sound _ (withSetup (a .b) u) _ (setupChecks (a .b .setup .outline) (a .count) (now (a .body)))
     (sym (k .enum-told .given .1) ∙ k .before .before .check-setup .ensures)
     (ap (λ (x : Setup). withSetup (a .b) x) (c .before .parse .ensures))
     (sound-set-up (a .b) (a .count) (now (a .body)) (s .pre) (taken k))

@@ -17,9 +17,12 @@ use borrow.Author.Needs.{needs}
 use Rattle.book.proofs.stage.describe.Statement.{statement}
 use Rattle.book.proofs.stage.describe.Tie as tie
 
-taken : (c : tie.After-enum-told) → let a = c .before .before .before .before .before .before .args in Accepts (a .b .setup .outline) (a .stage) (now (a .body))
+abbrev start : tie.After-enum-told → tie.Start
+start c = c .before .before .before .before .before .before
+
+taken : (c : tie.After-enum-told) → let a = start c .args in Accepts (a .b .setup .outline) (a .stage) (now (a .body))
 taken c =
-    let a = c .before .before .before .before .before .before .args in
+    let a = start c .args in
     accepted (a .b .setup .outline) (a .stage) (now (a .body)) (sym (c .enum-told .given .1) ∙ c .before .before .check-stage .ensures)
 
 check-stage-requires : tie.Need-check-stage-requires
@@ -51,23 +54,35 @@ part-rates-into-end c = search needs
 
 rates-into-requires : tie.Need-rates-into-requires
 rates-into-requires c κs =
-    let t = taken (c .before .before .before) in
-    simp (length-take, length-drop) (omega (arith, t .next, t .left, t .substances, t .long, c .before .before .before .before .before .before .before .before .before .pre .setup .stages-few))
+    let k = c .before .before .before in
+    let t = taken k in
+    simp (length-take, length-drop) (omega (arith, t .next, t .left, t .substances, t .long, start k .pre .setup .stages-few))
 
 shared-slice-read-next : tie.Need-shared-slice-read-next
 shared-slice-read-next c = let t = taken (c .before .before .before .before .before) in omega (arith, t .long)
 
 element-write-next : tie.Need-element-write-next
-element-write-next c = let t = taken (c .before .before .before .before .before) in omega (arith, t .next, t .left, c .before .before .before .before .before .before .before .before .before .before .before .pre .setup .stages-few, c .before .before .before .before .before .before .before .before .before .before .before .pre .setup .water-long)
+element-write-next c =
+    let k = c .before .before .before .before .before in
+    let t = taken k in
+    let u = start k .pre .setup in
+    omega (arith, t .next, t .left, u .stages-few, u .water-long)
 
 shared-slice-read-next-2 : tie.Need-shared-slice-read-next-2
 shared-slice-read-next-2 c = let t = taken (c .before .before .before .before .before .before) in omega (arith, t .long)
 
 element-write-next-2 : tie.Need-element-write-next-2
-element-write-next-2 c = let t = taken (c .before .before .before .before .before .before) in omega (arith, t .next, t .left, c .before .before .before .before .before .before .before .before .before .before .before .before .pre .setup .stages-few, c .before .before .before .before .before .before .before .before .before .before .before .before .pre .setup .residue-long)
+element-write-next-2 c =
+    let k = c .before .before .before .before .before .before in
+    let t = taken k in
+    let u = start k .pre .setup in
+    omega (arith, t .next, t .left, u .stages-few, u .residue-long)
 
 add-next : tie.Need-add-next
-add-next c = let t = taken (c .before .before .before .before .before .before) in omega (arith, t .next, t .left, c .before .before .before .before .before .before .before .before .before .before .before .before .pre .setup .stages-few)
+add-next c =
+    let k = c .before .before .before .before .before .before in
+    let t = taken k in
+    omega (arith, t .next, t .left, start k .pre .setup .stages-few)
 
 add-c : tie.Need-add-c
 add-c c = search needs
@@ -75,20 +90,22 @@ add-c c = search needs
 returns : tie.Need-returns
 unfolding describedOn
 returns c =
-    let a = c .before .before .before .before .before .before .before .before .args in
-    refuses Sound (a .b) (withSetup (a .b) (withStage (a .b .setup) (a .stage) (now (a .body)))) (stageChecks (a .b .setup .outline) (a .stage) (now (a .body)))
-    (c .before .before .before .before .check-stage .result) (c .before .before .d .given .0 .0) (c .declined .result) (c .before .before .before .before .check-stage .ensures) (c .before .before .d .given .1) (c .declined .ensures) (c .before .before .before .before .before .before .before .before .pre)
+    let k = c .before .before .before .before in
+    let s = k .before .before .before .before in
+    let a = s .args in
+    refuses Sound _ (withSetup (a .b) (withStage (a .b .setup) (a .stage) (now (a .body)))) (stageChecks (a .b .setup .outline) (a .stage) (now (a .body)))
+    _ _ _ (k .check-stage .ensures) (c .before .before .d .given .1) (c .declined .ensures) (s .pre)
 
 returns-2 : tie.Need-returns-2
 unfolding describedOn
 returns-2 c =
     let k = c .before .before .before .before .before .before .before .before in
-    let s = k .before .before .before .before .before .before in
+    let s = start k in
     let a = s .args in
     let body = now (a .body) in
     let u = a .b .setup in
     let read = c .before .before .before .before .rates-into .ensures ∙ ap (λ (l : List ℕ). putTo (λ i. a .stage * 8 + i) (rateRow l) (u .rates) (u .outline .substances)) (tail-is 2 body) in
-    grants Sound (a .b) (withSetup (a .b) (withStage u (a .stage) body)) (withSetup (a .b) (staged u (a .stage) body (c .before .before .before .before .rates-into .result))) (stageChecks (u .outline) (a .stage) body)
+    grants Sound _ (withSetup (a .b) (withStage u (a .stage) body)) _ (stageChecks (u .outline) (a .stage) body)
     (sym (k .enum-told .given .1) ∙ k .before .before .check-stage .ensures)
     (ap (λ (l : List Rates). withSetup (a .b) (staged u (a .stage) body l)) read)
     (sound-described (a .b) (a .stage) body (s .pre) (taken k))

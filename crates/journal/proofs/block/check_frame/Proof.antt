@@ -1,4 +1,3 @@
-use mathlib.Core.List.{List}
 use mathlib.Core.Path.{_≡_, sym, ap, _∙_}
 use Prim.Native.Nat.{ℕ}
 use native.Mathlib.Omega.{arith}
@@ -15,24 +14,48 @@ use Rattle.journal.specs.Block.{frameChecks}
 use Rattle.journal.proofs.block.check_frame.Statement.{statement}
 use Rattle.journal.proofs.block.check_frame.Tie as tie
 
+-- the start, after each check
+abbrev from1 : tie.Else1 → tie.Start
+from1 c = c .before .before
+
+abbrev from2 : tie.Else2 → tie.Start
+from2 c = from1 (c .before .before)
+
+abbrev from3 : tie.Else3 → tie.Start
+from3 c = from2 (c .before .before .before .before .before)
+
+abbrev from4 : tie.Else4 → tie.Start
+from4 c = from3 (c .before .before .before)
+
+abbrev from5 : tie.Else5 → tie.Start
+from5 c = from4 (c .before .before .before)
+
 -- what the checks from the kth on say
-abbrev Told : ℕ → List ℕ → ℕ → Verdict → Type 0
-Told number s k v = v ≡ verdictOf (checked (drop k (frameChecks number s)) (tt {0}))
+abbrev Told : tie.Start → ℕ → Verdict → Type 0
+Told s k v = v ≡ verdictOf (checked (drop k (frameChecks (s .args .number) (now (s .args .s)))) (tt {0}))
 
-past1 : (c : tie.Else1) {v : Verdict} → let a = c .before .before .args in Told (a .number) (now (a .s)) 1 v → Told (a .number) (now (a .s)) 0 v
-past1 c e = past _ _ _ _ (eq-eqb _ _ (c .if1 .left)) e
+-- the first k checks hold, so the others decide
+abbrev Past : tie.Start → ℕ → Type 0
+Past s k = (v : Verdict) → Told s k v → Told s 0 v
 
-past2 : (c : tie.Else2) {v : Verdict} → let a = c .before .before .before .before .args in Told (a .number) (now (a .s)) 2 v → Told (a .number) (now (a .s)) 0 v
-past2 c e = past1 (c .before .before) (past _ _ _ _ (holds (c .before .has-tag .ensures) (c .if2 .left)) e)
+past1 : (c : tie.Else1) → Past (from1 c) 1
+past1 c v e = past _ _ _ _ (eq-eqb _ _ (c .if1 .left)) e
 
-past3 : (c : tie.Else3) {v : Verdict} → let a = c .before .before .before .before .before .before .before .before .before .args in Told (a .number) (now (a .s)) 3 v → Told (a .number) (now (a .s)) 0 v
-past3 c e = past2 (c .before .before .before .before .before) (past _ _ _ _ (eq-eqb _ _ (sym (c .before .before .le16 .ensures) ∙ c .if3 .left ∙ ap (λ (x : CheckSums). x .plain) (c .before .before .before .check-sums .ensures))) e)
+past2 : (c : tie.Else2) → Past (from2 c) 2
+past2 c v e = past1 (c .before .before) v (past _ _ _ _ (holds (c .before .has-tag .ensures) (c .if2 .left)) e)
 
-past4 : (c : tie.Else4) {v : Verdict} → let a = c .before .before .before .before .before .before .before .before .before .before .before .before .args in Told (a .number) (now (a .s)) 4 v → Told (a .number) (now (a .s)) 0 v
-past4 c e = past3 (c .before .before .before) (past _ _ _ _ (eq-eqb _ _ (sym (c .before .before .le162 .ensures) ∙ c .if4 .left ∙ ap (λ (x : CheckSums). x .weighted) (c .before .before .before .before .before .before .check-sums .ensures))) e)
+past3 : (c : tie.Else3) → Past (from3 c) 3
+past3 c v e =
+    let sums = c .before .before .before .check-sums .ensures in
+    past2 (c .before .before .before .before .before) v (past _ _ _ _ (eq-eqb _ _ (sym (c .before .before .le16 .ensures) ∙ c .if3 .left ∙ ap (λ (x : CheckSums). x .plain) sums)) e)
 
-past5 : (c : tie.Else5) {v : Verdict} → let a = c .before .before .before .before .before .before .before .before .before .before .before .before .before .before .before .args in Told (a .number) (now (a .s)) 5 v → Told (a .number) (now (a .s)) 0 v
-past5 c e = past4 (c .before .before .before) (past _ _ _ _ (holds (c .before .is-kind .ensures) (c .if5 .left)) e)
+past4 : (c : tie.Else4) → Past (from4 c) 4
+past4 c v e =
+    let sums = c .before .before .before .before .before .before .check-sums .ensures in
+    past3 (c .before .before .before) v (past _ _ _ _ (eq-eqb _ _ (sym (c .before .before .le162 .ensures) ∙ c .if4 .left ∙ ap (λ (x : CheckSums). x .weighted) sums)) e)
+
+past5 : (c : tie.Else5) → Past (from5 c) 5
+past5 c v e = past4 (c .before .before .before) v (past _ _ _ _ (holds (c .before .is-kind .ensures) (c .if5 .left)) e)
 
 returns : tie.Need-returns
 returns c = stop _ _ _ _ (ne-eqb _ _ (c .if1 .taken))
@@ -41,7 +64,7 @@ has-tag-requires : tie.Need-has-tag-requires
 has-tag-requires c κs = search needs
 
 returns-2 : tie.Need-returns-2
-returns-2 c = past1 (c .before .before) (stop _ _ _ _ (misses (c .before .has-tag .ensures) (c .if2 .taken)))
+returns-2 c = past1 (c .before .before) _ (stop _ _ _ _ (misses (c .before .has-tag .ensures) (c .if2 .taken)))
 
 slice-aggregate-check-sums : tie.Need-slice-aggregate-check-sums
 slice-aggregate-check-sums c = simp length-take (omega arith)
@@ -53,13 +76,17 @@ le16-requires : tie.Need-le16-requires
 le16-requires c κs = search needs
 
 returns-3 : tie.Need-returns-3
-returns-3 c = past2 (c .before .before .before .before .before) (stop _ _ _ _ (ne-eqb _ _ (λ e. c .if3 .taken (c .before .before .le16 .ensures ∙ e ∙ sym (ap (λ (x : CheckSums). x .plain) (c .before .before .before .check-sums .ensures))))))
+returns-3 c =
+    let sums = c .before .before .before .check-sums .ensures in
+    past2 (c .before .before .before .before .before) _ (stop _ _ _ _ (ne-eqb _ _ (λ e. c .if3 .taken (c .before .before .le16 .ensures ∙ e ∙ sym (ap (λ (x : CheckSums). x .plain) sums)))))
 
 le16-requires-2 : tie.Need-le16-requires-2
 le16-requires-2 c κs = search needs
 
 returns-4 : tie.Need-returns-4
-returns-4 c = past3 (c .before .before .before) (stop _ _ _ _ (ne-eqb _ _ (λ e. c .if4 .taken (c .before .before .le162 .ensures ∙ e ∙ sym (ap (λ (x : CheckSums). x .weighted) (c .before .before .before .before .before .before .check-sums .ensures))))))
+returns-4 c =
+    let sums = c .before .before .before .before .before .before .check-sums .ensures in
+    past3 (c .before .before .before) _ (stop _ _ _ _ (ne-eqb _ _ (λ e. c .if4 .taken (c .before .before .le162 .ensures ∙ e ∙ sym (ap (λ (x : CheckSums). x .weighted) sums)))))
 
 shared-slice-read-is-kind : tie.Need-shared-slice-read-is-kind
 shared-slice-read-is-kind c = search needs
@@ -68,7 +95,7 @@ is-kind-requires : tie.Need-is-kind-requires
 is-kind-requires c κs = search needs
 
 returns-5 : tie.Need-returns-5
-returns-5 c = past4 (c .before .before .before) (stop _ _ _ _ (misses (c .before .is-kind .ensures) (c .if5 .taken)))
+returns-5 c = past4 (c .before .before .before) _ (stop _ _ _ _ (misses (c .before .is-kind .ensures) (c .if5 .taken)))
 
 le16-requires-3 : tie.Need-le16-requires-3
 le16-requires-3 c κs = search needs
@@ -77,10 +104,10 @@ cast-if6 : tie.Need-cast-if6
 cast-if6 c = search needs
 
 returns-6 : tie.Need-returns-6
-returns-6 c = past5 (c .before .before) (stop _ _ _ _ (ne-eqb _ _ (λ e. c .if6 .taken (c .before .le163 .ensures ∙ e))))
+returns-6 c = past5 (c .before .before) _ (stop _ _ _ _ (ne-eqb _ _ (λ e. c .if6 .taken (c .before .le163 .ensures ∙ e))))
 
 returns-7 : tie.Need-returns-7
-returns-7 c = past5 (c .before .before) (past _ _ _ _ (eq-eqb _ _ (sym (c .before .le163 .ensures) ∙ c .if6 .left)) (through (tt {0})))
+returns-7 c = past5 (c .before .before) _ (past _ _ _ _ (eq-eqb _ _ (sym (c .before .le163 .ensures) ∙ c .if6 .left)) (through (tt {0})))
 
 pub check-frame-spec : {M : Type 1} → statement M
 check-frame-spec =

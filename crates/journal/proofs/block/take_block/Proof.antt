@@ -6,13 +6,18 @@ use denote.Ref.{now}
 use Rattle.book.specs.Site.{Sound}
 use Rattle.book.specs.Answer.{outcome}
 use Rattle.book.proofs.answer.Laws.{stays}
-use Rattle.journal.specs.Block.{blockOn}
 use Rattle.journal.proofs.block.Laws.{frame-fails, frame-long, sets-up, describes, posts}
 use Rattle.journal.proofs.block.take_block.Statement.{statement}
 use Rattle.journal.proofs.block.take_block.Tie as tie
 
-long : (c : tie.After-enum-told) → length (now (c .before .before .before .before .before .args .s)) ≡ 512
-long c = frame-long (c .before .before .before .before .before .args .b) (now (c .before .before .before .before .before .args .s)) (c .before .before .before .block-number .result) (c .before .before .check-frame .result) (c .before .before .before .block-number .ensures) (c .before .before .check-frame .ensures) (c .enum-told .given .1)
+abbrev start : tie.After-enum-told → tie.Start
+start c = c .before .before .before .before .before
+
+long : (c : tie.After-enum-told) → length (now (start c .args .s)) ≡ 512
+long c =
+    let f = c .before .before in
+    let a = start c .args in
+    frame-long (a .b) (now (a .s)) _ _ (f .before .block-number .ensures) (f .check-frame .ensures) (c .enum-told .given .1)
 
 block-number-requires : tie.Need-block-number-requires
 block-number-requires c κs = search needs
@@ -24,7 +29,9 @@ enum-known-d : tie.Need-enum-known-d
 enum-known-d c = search needs
 
 returns : tie.Need-returns
-returns c = let s = c .before .before .before .before .before .before in stays Sound (s .args .b) (blockOn (s .args .b) (now (s .args .s))) (c .before .d .given .0 .0 .number) _ (frame-fails (s .args .b) (now (s .args .s)) (c .before .before .before .before .block-number .result) (c .before .before .before .check-frame .result) (c .before .before .before .before .block-number .ensures) (c .before .before .before .check-frame .ensures) (c .before .d .given .0 .0) (c .before .d .given .1)) refl (s .pre)
+returns c =
+    let f = c .before .before .before in
+    stays Sound _ _ _ _ (frame-fails _ _ _ _ (f .before .block-number .ensures) (f .check-frame .ensures) _ (c .before .d .given .1)) refl (f .before .before .before .pre)
 
 enum-told : tie.Need-enum-told
 enum-told c = search needs
@@ -48,19 +55,31 @@ set-up-requires : tie.Need-set-up-requires
 set-up-requires c κs = search needs
 
 returns-2 : tie.Need-returns-2
-returns-2 c = let k = c .before .before .before .before .before in let s = k .before .before .before .before .before in (c .set-up .ensures .0 ∙ ap (outcome (s .args .b)) (sym (sets-up (k .before .before .before .before .before .args .b) (now (k .before .before .before .before .before .args .s)) (k .before .before .before .block-number .result) (k .before .before .check-frame .result) (k .before .before .before .block-number .ensures) (k .before .before .check-frame .ensures) (k .enum-told .given .1) (c .before .if1 .taken))), c .set-up .ensures .1)
+returns-2 c =
+    let k = c .before .before .before .before .before in
+    let f = k .before .before in
+    let e = sets-up _ _ _ _ (f .before .block-number .ensures) (f .check-frame .ensures) (k .enum-told .given .1) (c .before .if1 .taken) in
+    (c .set-up .ensures .0 ∙ ap (outcome (start k .args .b)) (sym e), c .set-up .ensures .1)
 
 describe-requires : tie.Need-describe-requires
 describe-requires c κs = search needs
 
 returns-3 : tie.Need-returns-3
-returns-3 c = let k = c .before .before .before .before .before .before in let s = k .before .before .before .before .before in (c .describe .ensures .0 ∙ ap (outcome (s .args .b)) (sym (describes (k .before .before .before .before .before .args .b) (now (k .before .before .before .before .before .args .s)) (k .before .before .before .block-number .result) (k .before .before .check-frame .result) (k .before .before .before .block-number .ensures) (k .before .before .check-frame .ensures) (k .enum-told .given .1) (c .before .before .if1 .left) (c .before .if2 .taken))), c .describe .ensures .1)
+returns-3 c =
+    let k = c .before .before .before .before .before .before in
+    let f = k .before .before in
+    let e = describes _ _ _ _ (f .before .block-number .ensures) (f .check-frame .ensures) (k .enum-told .given .1) (c .before .before .if1 .left) (c .before .if2 .taken) in
+    (c .describe .ensures .0 ∙ ap (outcome (start k .args .b)) (sym e), c .describe .ensures .1)
 
 take-posts-requires : tie.Need-take-posts-requires
 take-posts-requires c κs = search needs
 
 returns-4 : tie.Need-returns-4
-returns-4 c = let k = c .before .before .before .before .before .before in let s = k .before .before .before .before .before in (c .take-posts .ensures .0 ∙ ap (outcome (s .args .b)) (sym (posts (k .before .before .before .before .before .args .b) (now (k .before .before .before .before .before .args .s)) (k .before .before .before .block-number .result) (k .before .before .check-frame .result) (k .before .before .before .block-number .ensures) (k .before .before .check-frame .ensures) (k .enum-told .given .1) (c .before .before .if1 .left) (c .before .if2 .left))), c .take-posts .ensures .1)
+returns-4 c =
+    let k = c .before .before .before .before .before .before in
+    let f = k .before .before in
+    let e = posts _ _ _ _ (f .before .block-number .ensures) (f .check-frame .ensures) (k .enum-told .given .1) (c .before .before .if1 .left) (c .before .if2 .left) in
+    (c .take-posts .ensures .0 ∙ ap (outcome (start k .args .b)) (sym e), c .take-posts .ensures .1)
 
 pub take-block-spec : {M : Type 1} → statement M
 take-block-spec =

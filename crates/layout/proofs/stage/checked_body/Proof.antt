@@ -1,5 +1,4 @@
 use mathlib.Core.Path.{_≡_, ap, _∙_}
-use mathlib.Core.List.{List}
 use denote.Ref.{now}
 use Prim.Native.Nat.{ℕ, _+_, _*_}
 use lib.ListN.{drop}
@@ -14,24 +13,38 @@ use borrow.Author.Needs.{needs}
 use Rattle.layout.proofs.stage.checked_body.Statement.{statement}
 use Rattle.layout.proofs.stage.checked_body.Tie as tie
 
+-- the start, after each check
+abbrev from1 : tie.Else1 → tie.Start
+from1 c = c .before .before .before .before
+
+abbrev from2 : tie.Else2 → tie.Start
+from2 c = from1 (c .before .before .before)
+
+abbrev from3 : tie.Else3 → tie.Start
+from3 c = from2 (c .before .before .before)
+
 -- what the checks from the kth on say
-abbrev Told : ℕ → List ℕ → ℕ → Verdict → Type 0
-Told substances body k v = v ≡ verdictOf (checked (drop k (stageBodyChecks substances body)) (tt {0}))
+abbrev Told : tie.Start → ℕ → Verdict → Type 0
+Told s k v = v ≡ verdictOf (checked (drop k (stageBodyChecks (s .args .substances) (now (s .args .body)))) (tt {0}))
 
-past1 : (c : tie.Else1) {v : Verdict} → let a = c .before .before .before .before .args in Told (a .substances) (now (a .body)) 1 v → Told (a .substances) (now (a .body)) 0 v
-past1 c e = past _ _ _ _ (holds (c .before .is-within .ensures) (c .if1 .left)) e
+-- the first k checks hold, so the others decide
+abbrev Past : tie.Start → ℕ → Type 0
+Past s k = (v : Verdict) → Told s k v → Told s 0 v
 
-past2 : (c : tie.Else2) {v : Verdict} → let a = c .before .before .before .before .before .before .before .args in Told (a .substances) (now (a .body)) 2 v → Told (a .substances) (now (a .body)) 0 v
-past2 c e = past1 (c .before .before .before) (past _ _ _ _ (holds (c .before .is-within2 .ensures) (c .if2 .left)) e)
+past1 : (c : tie.Else1) → Past (from1 c) 1
+past1 c v e = past _ _ _ _ (holds (c .before .is-within .ensures) (c .if1 .left)) e
 
-rates-told : (c : tie.After-all-rates-fit) → let a = c .before .before .before .before .before .before .before .before .before .args in c .all-rates-fit .result ≡ allRatesFit (a .substances) (drop 2 (now (a .body)))
-rates-told c = let a = c .before .before .before .before .before .before .before .before .before .args in c .all-rates-fit .ensures ∙ ap (allRatesFit (a .substances)) (tail-is 2 (now (a .body)))
+past2 : (c : tie.Else2) → Past (from2 c) 2
+past2 c v e = past1 (c .before .before .before) v (past _ _ _ _ (holds (c .before .is-within2 .ensures) (c .if2 .left)) e)
 
-past3 : (c : tie.Else3) {v : Verdict} → let a = c .before .before .before .before .before .before .before .before .before .before .args in Told (a .substances) (now (a .body)) 3 v → Told (a .substances) (now (a .body)) 0 v
-past3 c e = past2 (c .before .before .before) (past _ _ _ _ (holds (rates-told (c .before)) (c .if3 .left)) e)
+rates-told : (c : tie.After-all-rates-fit) → let a = from2 (c .before .before) .args in c .all-rates-fit .result ≡ allRatesFit (a .substances) (drop 2 (now (a .body)))
+rates-told c = let a = from2 (c .before .before) .args in c .all-rates-fit .ensures ∙ ap (allRatesFit (a .substances)) (tail-is 2 (now (a .body)))
 
-zeros-told : (c : tie.After-all-zero) → let a = c .before .before .before .before .before .before .before .before .before .before .before .before .args in c .all-zero .result ≡ allZero (drop (2 + a .substances * 17) (now (a .body)))
-zeros-told c = let a = c .before .before .before .before .before .before .before .before .before .before .before .before .args in c .all-zero .ensures ∙ ap allZero (tail-is (2 + a .substances * 17) (now (a .body)))
+past3 : (c : tie.Else3) → Past (from3 c) 3
+past3 c v e = past2 (c .before .before .before) v (past _ _ _ _ (holds (rates-told (c .before)) (c .if3 .left)) e)
+
+zeros-told : (c : tie.After-all-zero) → let a = from3 (c .before .before) .args in c .all-zero .result ≡ allZero (drop (2 + a .substances * 17) (now (a .body)))
+zeros-told c = let a = from3 (c .before .before) .args in c .all-zero .ensures ∙ ap allZero (tail-is (2 + a .substances * 17) (now (a .body)))
 
 shared-slice-read-is-within : tie.Need-shared-slice-read-is-within
 shared-slice-read-is-within c = search needs
@@ -49,7 +62,7 @@ is-within-requires-2 : tie.Need-is-within-requires-2
 is-within-requires-2 c κs = search needs
 
 returns-2 : tie.Need-returns-2
-returns-2 c = past1 (c .before .before .before) (stop _ _ _ _ (misses (c .before .is-within2 .ensures) (c .if2 .taken)))
+returns-2 c = past1 (c .before .before .before) _ (stop _ _ _ _ (misses (c .before .is-within2 .ensures) (c .if2 .taken)))
 
 sub-all-rates-fit : tie.Need-sub-all-rates-fit
 sub-all-rates-fit c = search needs
@@ -64,7 +77,7 @@ all-rates-fit-requires : tie.Need-all-rates-fit-requires
 all-rates-fit-requires c κs = search needs
 
 returns-3 : tie.Need-returns-3
-returns-3 c = past2 (c .before .before .before) (stop _ _ _ _ (misses (rates-told (c .before)) (c .if3 .taken)))
+returns-3 c = past2 (c .before .before .before) _ (stop _ _ _ _ (misses (rates-told (c .before)) (c .if3 .taken)))
 
 mul-all-zero : tie.Need-mul-all-zero
 mul-all-zero c = search needs
@@ -85,10 +98,10 @@ all-zero-requires : tie.Need-all-zero-requires
 all-zero-requires c κs = search needs
 
 returns-4 : tie.Need-returns-4
-returns-4 c = past3 (c .before .before .before) (stop _ _ _ _ (misses (zeros-told (c .before)) (c .if4 .taken)))
+returns-4 c = past3 (c .before .before .before) _ (stop _ _ _ _ (misses (zeros-told (c .before)) (c .if4 .taken)))
 
 returns-5 : tie.Need-returns-5
-returns-5 c = past3 (c .before .before .before) (past _ _ _ _ (holds (zeros-told (c .before)) (c .if4 .left)) (through (tt {0})))
+returns-5 c = past3 (c .before .before .before) _ (past _ _ _ _ (holds (zeros-told (c .before)) (c .if4 .left)) (through (tt {0})))
 
 pub checked-body-spec : {M : Type 1} → statement M
 checked-body-spec =
