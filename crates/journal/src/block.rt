@@ -4,7 +4,6 @@ ghost use Prim.Native.Nat.{_≤_};
 ghost use lib.ListN.{length};
 ghost use Rattle.amounts.specs.Decline.{checked};
 ghost use Rattle.layout.specs.Verdict.{verdictOf};
-ghost use Rattle.layout.specs.Setup.{within};
 ghost use Rattle.book.specs.Answer.{outcome};
 ghost use Rattle.book.specs.Site.{Sound};
 ghost use Rattle.journal.specs.Block.{hasTag, plainSum, weightedSum, frameChecks, blockOn};
@@ -60,15 +59,6 @@ fn wide(x: u8) -> u32
     x as u32
 }
 
-fn is_kind(kind: u8) -> bool
-    ensures { λ r. ⌜ r ≡ within 1 3 kind ⌝ }
-{
-    if kind < 1 {
-        return false;
-    }
-    kind <= 3
-}
-
 // Declines 1 to 3.
 fn check_frame(number: u32, s: &[u8]) -> Verdict
     ensures { λ r. ⌜ r ≡ verdictOf (checked (frameChecks number (now (s .entry))) (tt {0})) ⌝ }
@@ -86,7 +76,7 @@ fn check_frame(number: u32, s: &[u8]) -> Verdict
     if layout::bytes::le16(s, 510) != sums.weighted {
         return Verdict::Declined(decline::CHECK_SUM);
     }
-    if !is_kind(s[4]) {
+    if !layout::setup::is_within(1, 3, s[4]) {
         return Verdict::Declined(decline::NUMBER);
     }
     let own = layout::bytes::le16(s, 6);

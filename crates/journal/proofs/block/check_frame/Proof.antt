@@ -55,7 +55,7 @@ past4 c v e =
     past3 (c .before .before .before) v (past _ _ _ _ (eq-eqb _ _ (sym (c .before .before .le162 .ensures) ∙ c .if4 .left ∙ ap (λ (x : CheckSums). x .weighted) sums)) e)
 
 past5 : (c : tie.Else5) → Past (from5 c) 5
-past5 c v e = past4 (c .before .before .before) v (past _ _ _ _ (holds (c .before .is-kind .ensures) (c .if5 .left)) e)
+past5 c v e = past4 (c .before .before .before) v (past _ _ _ _ (holds (c .before .is-within .ensures) (c .if5 .left)) e)
 
 returns : tie.Need-returns
 returns c = stop _ _ _ _ (ne-eqb _ _ (c .if1 .taken))
@@ -88,14 +88,14 @@ returns-4 c =
     let sums = c .before .before .before .before .before .before .check-sums .ensures in
     past3 (c .before .before .before) _ (stop _ _ _ _ (ne-eqb _ _ (λ e. c .if4 .taken (c .before .before .le162 .ensures ∙ e ∙ sym (ap (λ (x : CheckSums). x .weighted) sums)))))
 
-shared-slice-read-is-kind : tie.Need-shared-slice-read-is-kind
-shared-slice-read-is-kind c = search needs
+shared-slice-read-is-within : tie.Need-shared-slice-read-is-within
+shared-slice-read-is-within c = search needs
 
-is-kind-requires : tie.Need-is-kind-requires
-is-kind-requires c κs = search needs
+is-within-requires : tie.Need-is-within-requires
+is-within-requires c κs = search needs
 
 returns-5 : tie.Need-returns-5
-returns-5 c = past4 (c .before .before .before) _ (stop _ _ _ _ (misses (c .before .is-kind .ensures) (c .if5 .taken)))
+returns-5 c = past4 (c .before .before .before) _ (stop _ _ _ _ (misses (c .before .is-within .ensures) (c .if5 .taken)))
 
 le16-requires-3 : tie.Need-le16-requires-3
 le16-requires-3 c κs = search needs
@@ -122,8 +122,8 @@ check-frame-spec =
     returns-3
     le16-requires-2
     returns-4
-    shared-slice-read-is-kind
-    is-kind-requires
+    shared-slice-read-is-within
+    is-within-requires
     returns-5
     le16-requires-3
     cast-if6
