@@ -6,5 +6,4 @@ pub mod Stage
 pub mod Entered
 pub mod Posting
 pub mod Report
-pub mod Reporting
 pub mod Posts
