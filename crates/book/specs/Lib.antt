@@ -7,5 +7,4 @@ pub mod Stage
 pub mod Entered
 pub mod Posting
 pub mod Report
-pub mod Reporting
 pub mod Posts

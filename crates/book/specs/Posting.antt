@@ -1,7 +1,6 @@
 -- A post on a book (document 01, "Posts" and "Why a call is declined, in checking order", 4 to 11).
 use Prim.Native.Nat.{ℕ, _+_, _-_, _≤_, _<_}
-use mathlib.Core.Path.{_≡_}
-use mathlib.Core.Bool.{Bool, true, false, not, _||_, _&&_, cond}
+use mathlib.Core.Bool.{Bool, true, not, _||_, _&&_, cond}
 use mathlib.Core.List.{List, [], _∷_, _++_}
 use lib.Dec.{eqb, leb, ltb}
 use lib.ListN.{getD, set}
@@ -115,10 +114,10 @@ isThere store sums p n =
     true)
 
 -- 10 and 11: what the book holds
-abbrev pub bookChecks : Book → Post → ℕ → List Check
-bookChecks b p n =
-    check (hasRoom (b .posts) p) number.full
-    ∷ check (isThere (b .store) (b .sums) p n) number.short
+abbrev pub bookChecks : ℕ → List ℕ → List ℕ → Post → ℕ → List Check
+bookChecks posts store sums p n =
+    check (hasRoom posts p) number.full
+    ∷ check (isThere store sums p n) number.short
     ∷ []
 
 unfoldable pub postOn : Book → List ℕ → Answer Book
@@ -126,7 +125,7 @@ unfolding checked applied
 postOn b s =
     let p = postAt s in
     let n = amountOf (b .setup .numbers) p in
-    checked (readChecks (b .setup .outline) (b .setup .numbers) (b .closed) s ++ bookChecks b p n) (applied b p n)
+    checked (readChecks (b .setup .outline) (b .setup .numbers) (b .closed) s ++ bookChecks (b .posts) (b .store) (b .sums) p n) (applied b p n)
 
 -- ---- a post as read: 4 to 9 passed
 
@@ -144,25 +143,7 @@ readAnswer (read.Declined d) = declined (d .number)
 
 unfoldable pub admitted : Outline → List ℕ → Bool → ℕ → List ℕ → List ℕ → List ℕ → Answer Reading
 unfolding checked readOf
-admitted o numbers closed posts store sums s =
-    onTaken (readOf o numbers closed s)
-    (λ r. checked (check (hasRoom posts (r .post)) number.full ∷ check (isThere store sums (r .post) (r .amount)) number.short ∷ []) r)
-
--- ---- what passing the checks tells of a post that is applied
-
-pub record Applies (b : Book) (p : Post) (n : ℕ) : Type 0 where
-  pub in-turn : mayPost (b .setup .outline) ≡ true
-  pub is-open : b .closed ≡ false
-  pub kind : (1 ≤ p .kind) × (p .kind ≤ 13)
-  pub material : p .kind ≤ 3 → p .material < 12
-  pub stage : p .stage < 8
-  pub substance : p .substance < 8
-  pub grams : p .kind ≤ 3 → p .quantity ≤ 2000000000
-  pub amount : n ≤ 2000000000000000
-  pub formed : p .kind ≡ 4 → n ≡ p .quantity
-  pub room : p .kind ≤ 12 → b .posts < 4000
-  pub in-store : p .kind ≡ 3 → p .quantity ≤ getD (b .store) (p .material) 0
-  pub in-holding : 5 ≤ p .kind → p .kind ≤ 12 → n ≤ cell (b .sums) held (p .stage) (p .substance)
+admitted o numbers closed posts store sums s = onTaken (readOf o numbers closed s) (λ r. checked (bookChecks posts store sums (r .post) (r .amount)) r)
 
 -- ---- what a list has room for
 

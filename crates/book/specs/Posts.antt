@@ -40,10 +40,6 @@ numbered blocks b =
       closed = b .closed;
     }
 
--- a book with one block more
-abbrev pub withBlock : Book → Book
-withBlock b = numbered (b .blocks + 1) b
-
 -- what a run of n posts makes of a book, and the blocks that it then counts
 abbrev pub runOn : Book → (ℕ → List ℕ) → ℕ → ℕ → Answer Book
 runOn b posts n blocks = onTaken (takenTo b posts n) (λ c. taken (numbered blocks c))
@@ -62,4 +58,4 @@ ownChecks o closed count body =
 unfoldable pub postsOn : Book → ℕ → List ℕ → Answer Book
 unfolding checked takenTo
 postsOn b count body =
-    onTaken (checked (ownChecks (b .setup .outline) (b .closed) count body) count) (λ n. onTaken (takenTo b (postIn body) n) (λ c. taken (withBlock c)))
+    onTaken (checked (ownChecks (b .setup .outline) (b .closed) count body) count) (λ n. runOn b (postIn body) n (b .blocks + 1))

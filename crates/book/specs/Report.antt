@@ -15,6 +15,7 @@ use Rattle.layout.specs.declared.setup.Rates.{Rates}
 use Rattle.layout.specs.declared.setup.Setup.{Setup}
 use Rattle.book.specs.Ledger.{held, shipped, offSite, landfill, soil, consumed, gas, water, vapour, cell}
 use Rattle.book.specs.Site.{stored}
+use Rattle.book.specs.declared.report.Cells.{Cells}
 use Rattle.book.specs.declared.report.Filing.{Filing}
 use Rattle.book.specs.declared.report.Filing.the-variants.{Figures, NotDue}
 use Rattle.book.specs.declared.report.Headings.{Headings}
@@ -24,52 +25,59 @@ use Rattle.book.specs.declared.report.Reported as reported
 use Rattle.book.specs.declared.report.Reported.the-variants.{Known, Declined}
 use Rattle.book.specs.declared.site.Book.{Book}
 
--- an amount where a destination is the one asked for
+-- an amount by where it goes: a destination that isn't the first is the second
 abbrev pub atOne : ℕ → ℕ → ℕ
 atOne destination n = cond (eqb destination 1) n 0
 
 abbrev pub atTwo : ℕ → ℕ → ℕ
 atTwo destination n = cond (eqb destination 1) 0 n
 
--- A stage and a substance: its rates, and the split of its gas and of its waste water, "made on the year's totals, at the report".
+-- the rates of a stage and a substance
 abbrev pub ratesOf : Setup → ℕ → ℕ → Rates
 ratesOf u stage s = getD (u .rates) (stage * 8 + s) noRates
 
-abbrev pub gasParts : List ℕ → Setup → ℕ → ℕ → Parts
-gasParts sums u s stage =
-    let r = ratesOf u stage s in
-    partsOf (cell sums gas stage s) (r .«gas_removal») (r .«gas_destruction»)
-
-abbrev pub waterParts : List ℕ → Setup → ℕ → ℕ → Parts
-waterParts sums u s stage =
-    let r = ratesOf u stage s in
-    partsOf (cell sums water stage s) (r .«water_removal») (r .«water_destruction»)
-
-abbrev pub residues : List ℕ → Setup → ℕ → ℕ → ℕ
-residues sums u s stage = gasParts sums u s stage .residue + waterParts sums u s stage .residue
-
--- Of a stage: "air (gas released and vapour), public water, soil, landfill, sewer, off site. Treated water goes to public water or sewer, residues to
--- off site or landfill, as the stage says": 1 public water, 2 sewer; 1 off site, 2 landfill.
-abbrev pub stageHeadings : List ℕ → Setup → ℕ → ℕ → Headings
-stageHeadings sums u s stage =
-    record {
-      air = gasParts sums u s stage .released + cell sums vapour stage s;
-      water = atOne (getD (u .«water_to») stage 0) (waterParts sums u s stage .released);
-      soil = cell sums soil stage s;
-      land = cell sums landfill stage s + atTwo (getD (u .«residue_to») stage 0) (residues sums u s stage);
-      sewer = atTwo (getD (u .«water_to») stage 0) (waterParts sums u s stage .released);
-      offsite = cell sums offSite stage s + atOne (getD (u .«residue_to») stage 0) (residues sums u s stage);
-    }
-
-abbrev pub stageLine : List ℕ → Setup → ℕ → ℕ → Line
-stageLine sums u s stage =
+-- the year's totals of a stage and a substance, by account
+abbrev pub cellsOf : List ℕ → ℕ → ℕ → Cells
+cellsOf sums stage s =
     record {
       held = cell sums held stage s;
       shipped = cell sums shipped stage s;
+      «off_site» = cell sums offSite stage s;
+      landfill = cell sums landfill stage s;
+      soil = cell sums soil stage s;
       consumed = cell sums consumed stage s;
-      destroyed = gasParts sums u s stage .destroyed + waterParts sums u s stage .destroyed;
-      headings = stageHeadings sums u s stage;
+      gas = cell sums gas stage s;
+      water = cell sums water stage s;
+      vapour = cell sums vapour stage s;
     }
+
+-- Of a stage, with its gas and its waste water as split: "air (gas released and vapour), public water, soil, landfill, sewer, off site. Treated water goes to
+-- public water or sewer, residues to off site or landfill, as the stage says": 1 public water, 2 sewer; 1 off site, 2 landfill.
+abbrev pub lineFrom : Cells → Parts → Parts → ℕ → ℕ → Line
+lineFrom c g w waterTo residueTo =
+    record {
+      held = c .held;
+      shipped = c .shipped;
+      consumed = c .consumed;
+      destroyed = g .destroyed + w .destroyed;
+      headings =
+          record {
+            air = g .released + c .vapour;
+            water = atOne waterTo (w .released);
+            soil = c .soil;
+            land = c .landfill + atTwo residueTo (g .residue + w .residue);
+            sewer = atTwo waterTo (w .released);
+            offsite = c .«off_site» + atOne residueTo (g .residue + w .residue);
+          };
+    }
+
+-- the split of the gas and of the waste water, each by its own rates: "made on the year's totals, at the report"
+abbrev pub lineFor : Cells → Rates → ℕ → ℕ → Line
+lineFor c r waterTo residueTo =
+    lineFrom c (partsOf (c .gas) (r .«gas_removal») (r .«gas_destruction»)) (partsOf (c .water) (r .«water_removal») (r .«water_destruction»)) waterTo residueTo
+
+abbrev pub stageLine : List ℕ → Setup → ℕ → ℕ → Line
+stageLine sums u s stage = lineFor (cellsOf sums stage s) (ratesOf u stage s) (getD (u .«water_to») stage 0) (getD (u .«residue_to») stage 0)
 
 -- "Per substance, over all stages": here over the first n
 unfoldable pub lineTo : List ℕ → Setup → ℕ → ℕ → Line
@@ -81,12 +89,12 @@ lineTo sums u s n =
       destroyed = sumTo n (λ k. stageLine sums u s k .destroyed);
       headings =
           record {
-            air = sumTo n (λ k. stageHeadings sums u s k .air);
-            water = sumTo n (λ k. stageHeadings sums u s k .water);
-            soil = sumTo n (λ k. stageHeadings sums u s k .soil);
-            land = sumTo n (λ k. stageHeadings sums u s k .land);
-            sewer = sumTo n (λ k. stageHeadings sums u s k .sewer);
-            offsite = sumTo n (λ k. stageHeadings sums u s k .offsite);
+            air = sumTo n (λ k. stageLine sums u s k .headings .air);
+            water = sumTo n (λ k. stageLine sums u s k .headings .water);
+            soil = sumTo n (λ k. stageLine sums u s k .headings .soil);
+            land = sumTo n (λ k. stageLine sums u s k .headings .land);
+            sewer = sumTo n (λ k. stageLine sums u s k .headings .sewer);
+            offsite = sumTo n (λ k. stageLine sums u s k .headings .offsite);
           };
     }
 
@@ -132,3 +140,31 @@ reportOf b s = checked (check (ltb s (b .setup .outline .substances)) unknown �
 abbrev pub answer : reported.Reported → Answer Report
 answer (Known r) = taken r
 answer (Declined d) = declined (d .number)
+
+-- ---- the report's parts as the code goes through them
+
+-- all that a stage's accounts hold of a substance
+abbrev pub weighCells : Cells → ℕ
+weighCells c = c .held + c .shipped + c .«off_site» + c .landfill + c .soil + c .consumed + c .gas + c .water + c .vapour
+
+-- two lines added up, heading by heading
+abbrev pub addHeadings : Headings → Headings → Headings
+addHeadings x y =
+    record {
+      air = x .air + y .air;
+      water = x .water + y .water;
+      soil = x .soil + y .soil;
+      land = x .land + y .land;
+      sewer = x .sewer + y .sewer;
+      offsite = x .offsite + y .offsite;
+    }
+
+abbrev pub addLines : Line → Line → Line
+addLines x y =
+    record {
+      held = x .held + y .held;
+      shipped = x .shipped + y .shipped;
+      consumed = x .consumed + y .consumed;
+      destroyed = x .destroyed + y .destroyed;
+      headings = addHeadings (x .headings) (y .headings);
+    }

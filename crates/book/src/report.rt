@@ -8,8 +8,7 @@ ghost use Rattle.amounts.specs.Threshold.{dueOf};
 ghost use Rattle.amounts.specs.Treatment.{partsOf};
 ghost use Rattle.layout.specs.Setup.{noRates};
 ghost use Rattle.book.specs.Ledger.{total};
-ghost use Rattle.book.specs.Report.{atOne, atTwo, lineTo, sixOf, weigh, filingOf, reportOf, answer};
-ghost use Rattle.book.specs.Reporting.{cellsOf, weighCells, lineOf, addHeadings, addLines};
+ghost use Rattle.book.specs.Report.{atOne, atTwo, cellsOf, lineFor, lineTo, sixOf, weigh, filingOf, reportOf, answer, weighCells, addHeadings, addLines};
 ghost use Rattle.book.specs.Site.{Rated, storedTo, Sound};
 use crate::ledger;
 use crate::ledger::CONSUMED;
@@ -132,7 +131,7 @@ fn at_two(destination: u8, n: u64) -> u64
 fn line_of(c: Cells, r: Rates, water_to: u8, residue_to: u8) -> Line
     requires { ⌜ weighCells c < 2 ^ 64 ⌝ }
     requires { ⌜ Rated r ⌝ }
-    ensures { λ x. ⌜ x ≡ lineOf c r «water_to» «residue_to» ⌝ }
+    ensures { λ x. ⌜ x ≡ lineFor c r «water_to» «residue_to» ⌝ }
 {
     let gas = parts_of(c.gas, r.gas_removal, r.gas_destruction);
     let water = parts_of(c.water, r.water_removal, r.water_destruction);

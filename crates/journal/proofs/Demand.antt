@@ -21,7 +21,7 @@ use Rattle.layout.proofs.Each.{and-true, length-list}
 use Rattle.layout.proofs.setup.Laws.{within-true}
 use Rattle.book.specs.Entered.{enters, handles}
 use Rattle.book.specs.Posting.{postOn}
-use Rattle.book.specs.Posts.{postIn, postsOn, withBlock}
+use Rattle.book.specs.Posts.{postIn, postsOn, numbered}
 use Rattle.book.specs.Report.{mapHeadings, filingOf, reportAt}
 use Rattle.book.specs.Setup.{setUpOn, withSetup}
 use Rattle.book.specs.Site.{Sound, content, freshBook}
@@ -166,8 +166,8 @@ pub its-block : (kind : ℕ) (s : List ℕ) → kindOf s ≡ kind → blocksIn k
 its-block kind s e = rw (eq-eqb (kindOf s) kind e)
 
 -- the posts of a block, as many as it counts
-many-grown : (b d : Book) (f : ℕ → List ℕ) (n : ℕ) → 1 ≤ b .setup .outline .substances → Many b f n d → Sound (withBlock d) → Grown (b .setup .counted) b (listTo n f) (withBlock d)
-many-grown b d f n l m h =
+many-grown : (b d : Book) (f : ℕ → List ℕ) (n blocks : ℕ) → 1 ≤ b .setup .outline .substances → Many b f n d → Sound (numbered blocks d) → Grown (b .setup .counted) b (listTo n f) (numbered blocks d)
+many-grown b d f n blocks l m h =
     record {
       sound = h;
       some = subst (λ (u : Setup). 1 ≤ u .outline .substances) (sym (m .same-setup)) l;
@@ -208,7 +208,7 @@ block-turn b c s h (posts k e) =
     let z = posts-taken b c (countOf s) (bodyOf s) e in
     let l = post-later (b .setup .outline) (posts-count b c (countOf s) (bodyOf s) e .2) in
     let m = many-taken b (z .0) (postIn (bodyOf s)) (countOf s) h (z .1) in
-    let g = many-grown b (z .0) (postIn (bodyOf s)) (countOf s) l m (subst Sound (z .2) (posts-sound b c (countOf s) (bodyOf s) h e)) in
+    let g = many-grown b (z .0) (postIn (bodyOf s)) (countOf s) (b .blocks + 1) l m (subst Sound (z .2) (posts-sound b c (countOf s) (bodyOf s) h e)) in
     goes-on l
     (rw (its-posts s k) (subst (λ (x : Book). Grown (b .setup .counted) b (listTo (countOf s) (postIn (bodyOf s))) x) (sym (z .2)) g))
 

@@ -17,14 +17,14 @@ use Rattle.layout.specs.declared.setup.Setup.{Setup}
 use Rattle.layout.proofs.Each.{sum-none}
 use Rattle.book.specs.Amount.{amountOf}
 use Rattle.book.specs.Ledger.{held, cell, closesTo}
-use Rattle.book.specs.Posting.{closedBook, applied, postOn, Applies}
+use Rattle.book.specs.Posting.{closedBook, applied, postOn}
 use Rattle.book.specs.Posts.{takenTo}
 use Rattle.book.specs.Report.{ratesOf}
 use Rattle.book.specs.Site.{Sound}
 use Rattle.book.specs.declared.site.Book.{Book}
 use Rattle.book.proofs.Sums.{sum-same}
 use Rattle.book.proofs.posting.Checks.{post-was-taken}
-use Rattle.book.proofs.posting.Laws.{applied-receipt, applied-issue, applied-forming, applied-transfer, applied-close, cell-few}
+use Rattle.book.proofs.posting.Laws.{Applies, applied-receipt, applied-issue, applied-forming, applied-transfer, applied-close, cell-few}
 use Rattle.book.proofs.posts.Laws.{post-step}
 use Rattle.journal.specs.Demand.{sumOver}
 use Rattle.journal.specs.Weighing.{issues, moves, closes}

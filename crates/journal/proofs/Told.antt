@@ -10,7 +10,7 @@ use Rattle.layout.specs.Each.{listTo}
 use Rattle.layout.specs.Setup.{setupOf}
 use Rattle.layout.specs.declared.setup.Setup.{Setup}
 use Rattle.book.specs.Posting.{postOn}
-use Rattle.book.specs.Posts.{postIn, postsOn, withBlock}
+use Rattle.book.specs.Posts.{postIn, postsOn, numbered}
 use Rattle.book.specs.Setup.{setUpOn}
 use Rattle.book.specs.Site.{Sound, freshBook}
 use Rattle.book.specs.Stage.{describedOn, withStage}
@@ -139,12 +139,12 @@ told-posts calls b c s h k e =
     let d = z .0 in
     let m = many-taken b d (postIn (bodyOf s)) (countOf s) (h .posted .sound) (z .1) in
     let p = posted-many b d (postsOf calls) (postIn (bodyOf s)) (countOf s) (h .posted) (z .1) in
-    let q : Posted (postsOf calls ++ listTo (countOf s) (postIn (bodyOf s))) (withBlock d) =
+    let q : Posted (postsOf calls ++ listTo (countOf s) (postIn (bodyOf s))) (numbered (b .blocks + 1) d) =
     record { sound = subst Sound (z .2) (posts-sound b c (countOf s) (bodyOf s) (h .posted .sound) e); count = p .count; state = p .state } in
     subst (λ (x : Book). Told (calls ++ (block s ∷ [])) x) (sym (z .2))
     (record {
       posted =
-          subst (λ (ps : List (List ℕ)). Posted ps (withBlock d))
+          subst (λ (ps : List (List ℕ)). Posted ps (numbered (b .blocks + 1) d))
           (sym (posts-last calls (block s) ∙ ap (λ (ps : List (List ℕ)). postsOf calls ++ ps) (its-posts s k))) q;
       setting = setting-same calls (block s) (b .setup) (d .setup) (no-block 1 s (λ f. omega arith)) (no-block 2 s (λ f. omega arith)) (m .same-setup) (h .setting);
     })

@@ -10,8 +10,6 @@ use lib.Dec.{eqb, ltb}
 use lib.ListN.{getD}
 use Rattle.amounts.specs.Decline.{taken, check, checked, valueOr, unknown}
 use Rattle.amounts.specs.Threshold.{dueOf}
-use Rattle.amounts.specs.Treatment.{partsOf}
-use Rattle.amounts.specs.declared.treatment.Parts.{Parts}
 use Rattle.layout.specs.Each.{sumTo}
 use Rattle.layout.specs.Post.{postAt}
 use Rattle.layout.specs.Setup.{numbersIn, classesIn, contentsIn, countedAll}
@@ -20,7 +18,7 @@ use Rattle.layout.specs.declared.setup.Rates.{Rates}
 use Rattle.layout.specs.declared.setup.Setup.{Setup}
 use Rattle.book.specs.Entered.{forms, enters, handles}
 use Rattle.book.specs.Ledger.{held, gas, water, cell, closesTo}
-use Rattle.book.specs.Report.{atOne, atTwo, ratesOf, stageLine, lineTo, filingOf, reportAt, reportOf}
+use Rattle.book.specs.Report.{ratesOf, cellsOf, lineFor, stageLine, lineTo, filingOf, reportAt, reportOf}
 use Rattle.book.specs.Site.{freshBook}
 use Rattle.book.specs.declared.report.Line.{Line}
 use Rattle.book.specs.declared.report.Report.{Report}
@@ -29,7 +27,7 @@ use Rattle.book.proofs.Sums.{sum-same}
 use Rattle.journal.specs.Block.{bodyOf}
 use Rattle.journal.specs.Demand as demand
 use Rattle.journal.specs.Demand.{Call, run, accepted, postsOf, blocksOf, setUpOf, substancesOf, countedOf, sumOver, Balanced}
-use Rattle.journal.specs.Weighing.{numbersOf, classOf, waterTo, residueTo, ratesFor, stocks, opening, bought, issued, store, issues, moves, under, formed, handled, came, left, remains, closes, heldAt, toGas, toWater, gasTotal, waterTotal, gasSplit, waterSplit, residue, lineOf, told, answerOf, Weighed, ReportByPosts}
+use Rattle.journal.specs.Weighing.{numbersOf, classOf, waterTo, residueTo, ratesFor, stocks, opening, bought, issued, store, issues, moves, under, formed, handled, came, left, remains, closes, heldAt, toGas, toWater, gasTotal, waterTotal, lineOf, told, answerOf, Weighed, ReportByPosts}
 use Rattle.journal.proofs.Demand.{report-balanced}
 use Rattle.journal.proofs.Posted.{cameSum, leftSum, movedSum, State, still-open, shut}
 use Rattle.journal.proofs.Setting.{SetBy}
@@ -132,35 +130,22 @@ module _ (u : Setup) (ps : List (List ℕ)) (sums : List ℕ) (k s : ℕ) (hk : 
 
 -- ---- a book that is what the calls say
 
--- a stage's line, by its sums, rates and destinations
-abbrev lineBy : ℕ → ℕ → ℕ → ℕ → ℕ → ℕ → ℕ → Parts → Parts → ℕ → ℕ → Line
-lineBy kept shipped off land soil consumed air g w water-to residue-to =
-    record {
-      held = kept;
-      shipped = shipped;
-      consumed = consumed;
-      destroyed = g .destroyed + w .destroyed;
-      headings =
-          record {
-            air = g .released + air;
-            water = atOne water-to (w .released);
-            soil = soil;
-            land = land + atTwo residue-to (g .residue + w .residue);
-            sewer = atTwo water-to (w .released);
-            offsite = off + atOne residue-to (g .residue + w .residue);
-          };
-    }
-
+-- a stage's line, by its sums
 abbrev stageTold : List Call → ℕ → ℕ → Line
 stageTold calls s k =
-    lineBy (heldAt calls s k) (under 5 calls s k) (under 6 calls s k) (under 7 calls s k) (under 8 calls s k) (under 9 calls s k) (under 12 calls s k)
-    (gasSplit calls s k) (waterSplit calls s k) (waterTo calls k) (residueTo calls k)
-
-same-line : (a b c d e f h a' b' c' d' e' f' h' : ℕ) (g w g' w' : Parts) (i j i' j' : ℕ)
-    → a ≡ a' → b ≡ b' → c ≡ c' → d ≡ d' → e ≡ e' → f ≡ f' → h ≡ h' → g ≡ g' → w ≡ w' → i ≡ i' → j ≡ j'
-    → lineBy a b c d e f h g w i j ≡ lineBy a' b' c' d' e' f' h' g' w' i' j'
-same-line a b c d e f h a' b' c' d' e' f' h' g w g' w' i j i' j' p1 p2 p3 p4 p5 p6 p7 p8 p9 p10 p11 =
-    rw (p1, p2, p3, p4, p5, p6, p7, p10, p11) (ap₂ (λ (x y : Parts). lineBy a' b' c' d' e' f' h' x y i' j') p8 p9)
+    lineFor
+    (record {
+      held = heldAt calls s k;
+      shipped = under 5 calls s k;
+      «off_site» = under 6 calls s k;
+      landfill = under 7 calls s k;
+      soil = under 8 calls s k;
+      consumed = under 9 calls s k;
+      gas = gasTotal calls s k;
+      water = waterTotal calls s k;
+      vapour = under 12 calls s k;
+    })
+    (ratesFor calls k s) (waterTo calls k) (residueTo calls k)
 
 -- entered less handled is what came less what was issued
 weighed-stock : (entered handled store weight came issued formed : ℕ) → entered ≡ store + weight → handled ≡ weight → handled ≡ issued + formed → entered ≡ came + formed → store + issued ≡ came
@@ -227,13 +212,20 @@ module _ (calls : List Call) (b : Book) (t : List ℕ) (first : blocksOf 1 calls
 
     stage-is : stageLine (b .sums) (b .setup) s k ≡ stageTold calls s k
     stage-is =
-        same-line _ _ _ _ _ _ _ _ _ _ _ _ _ _ _ _ _ _ _ _ _ _ held-is (named-is 0 (omega arith) (λ e. omega arith) (λ e. omega arith))
-        (named-is 1 (omega arith) (λ e. omega arith) (λ e. omega arith)) (named-is 2 (omega arith) (λ e. omega arith) (λ e. omega arith))
-        (named-is 3 (omega arith) (λ e. omega arith) (λ e. omega arith)) (named-is 4 (omega arith) (λ e. omega arith) (λ e. omega arith))
-        (named-is 7 (omega arith) (λ e. omega arith) (λ e. omega arith))
-        (ap₂ (λ (a : ℕ) (r : Rates). partsOf a (r .«gas_removal») (r .«gas_destruction»)) gas-is rates-are)
-        (ap₂ (λ (a : ℕ) (r : Rates). partsOf a (r .«water_removal») (r .«water_destruction»)) water-is rates-are)
-        (up .water k hk) (up .residue k hk)
+        ap (λ (r : Rates). lineFor (cellsOf (b .sums) k s) r (getD (b .setup .«water_to») k 0) (getD (b .setup .«residue_to») k 0)) rates-are
+        ∙ rw (
+          held-is,
+          named-is 0 (omega arith) (λ e. omega arith) (λ e. omega arith),
+          named-is 1 (omega arith) (λ e. omega arith) (λ e. omega arith),
+          named-is 2 (omega arith) (λ e. omega arith) (λ e. omega arith),
+          named-is 3 (omega arith) (λ e. omega arith) (λ e. omega arith),
+          named-is 4 (omega arith) (λ e. omega arith) (λ e. omega arith),
+          gas-is,
+          water-is,
+          named-is 7 (omega arith) (λ e. omega arith) (λ e. omega arith),
+          up .water k hk,
+          up .residue k hk,
+        )
 
   -- over all stages, for each amount of a line
   over-stages : (f : Line → ℕ) → sumTo 8 (λ k. f (stageLine (b .sums) (b .setup) s k)) ≡ sumTo 8 (λ k. f (stageTold calls s k))

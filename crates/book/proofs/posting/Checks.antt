@@ -16,11 +16,12 @@ use Rattle.layout.specs.declared.post.Post.{Post}
 use Rattle.layout.proofs.post.Laws.{Laid, laid}
 use Rattle.book.specs.Amount.{lossFor, lossOver, floatsOf, amountWith, amountOf}
 use Rattle.book.specs.Ledger.{held, cell}
-use Rattle.book.specs.Posting.{applied, readChecks, hasRoom, isThere, bookChecks, postOn, readOf, admitted, Applies}
+use Rattle.book.specs.Posting.{applied, readChecks, hasRoom, isThere, bookChecks, postOn, readOf, admitted}
 use Rattle.book.specs.Site.{Sound}
 use Rattle.book.specs.declared.posting.Reading.{Reading}
 use Rattle.book.specs.declared.site.Book.{Book}
 use Rattle.book.proofs.amount.Laws.{loss-refused, loss-weighed, amount-small, amount-formed}
+use Rattle.book.proofs.posting.Laws.{Applies}
 
 -- ---- tables
 
@@ -102,12 +103,13 @@ module _ (b : Book) (s : List ℕ) where
   abbrev after : Reading → Book
   after r = applied b (r .post) (r .amount)
 
-  post-is : postOn b s ≡ onTaken reads (λ _. checked (bookChecks b (asked .post) (asked .amount)) (after asked))
+  abbrev rows : Reading → List Check
+  rows r = bookChecks (b .posts) (b .store) (b .sums) (r .post) (r .amount)
+
+  post-is : postOn b s ≡ onTaken reads (λ _. checked (rows asked) (after asked))
   unfolding postOn readOf
   post-is =
-      checked-append (readChecks (b .setup .outline) (b .setup .numbers) (b .closed) s) (bookChecks b (asked .post) (asked .amount))
-      (after asked)
-      _
+      checked-append (readChecks (b .setup .outline) (b .setup .numbers) (b .closed) s) (rows asked) (after asked) _
 
   post-declined : (n : ℕ) → reads ≡ declined n → postOn b s ≡ declined n
   post-declined n e = post-is ∙ rw e
@@ -191,9 +193,8 @@ module _ (b : Book) (s : List ℕ) (sound : Sound b) where
   pub post-was-taken : (c : Book) → postOn b s ≡ taken c
       → Applies b (postAt s) (amountOf (b .setup .numbers) (postAt s)) × (c ≡ applied b (postAt s) (amountOf (b .setup .numbers) (postAt s)))
   post-was-taken c e =
-      let rows = bookChecks b (asked b s .post) (asked b s .amount) in
-      let z = was-taken (reads b s) (λ _. checked rows (after b s (asked b s))) c (sym (post-is b s) ∙ e) in
-      let y = passed rows (after b s (asked b s)) c (z .2) in
+      let z = was-taken (reads b s) (λ _. checked (rows b s (asked b s)) (after b s (asked b s))) c (sym (post-is b s) ∙ e) in
+      let y = passed (rows b s (asked b s)) (after b s (asked b s)) c (z .2) in
       (applies-asked (z .0) (z .1) (y .0 .0) (y .0 .1 .0), y .1)
 
 -- ---- 4 to 11
@@ -230,10 +231,7 @@ module _ (b : Book) (s : List ℕ) where
   abbrev pub asks : Answer Reading
   asks = admitted (b .setup .outline) (b .setup .numbers) (b .closed) (b .posts) (b .store) (b .sums) s
 
-  abbrev rows : Reading → List Check
-  rows r = bookChecks b (r .post) (r .amount)
-
-  asks-is : asks ≡ onTaken (reads b s) (λ r. checked (rows r) r)
+  asks-is : asks ≡ onTaken (reads b s) (λ r. checked (rows b s r) r)
   unfolding admitted
   asks-is = refl
 
@@ -241,21 +239,21 @@ module _ (b : Book) (s : List ℕ) where
   pub not-admitted : (n : ℕ) → asks ≡ declined n → postOn b s ≡ declined n
   not-admitted n h = go (reads b s) refl (sym asks-is ∙ h)
     where
-      go : (x : Answer Reading) → reads b s ≡ x → onTaken x (λ r. checked (rows r) r) ≡ declined n → postOn b s ≡ declined n
+      go : (x : Answer Reading) → reads b s ≡ x → onTaken x (λ r. checked (rows b s r) r) ≡ declined n → postOn b s ≡ declined n
       go (declined m) e q = post-declined b s m e ∙ q'
         where
           q' : _≡_ {A = Answer Book} (declined m) (declined n)
           q' = cc
       go (taken r) e q =
-          as-read b s r e (λ x. checked (rows x) x ≡ declined n → postOn b s ≡ declined n)
-          (λ w. post-is b s ∙ ap (λ (y : Answer Reading). onTaken y (λ _. checked (rows (asked b s)) (after b s (asked b s)))) e ∙ same-decline (rows (asked b s)) (asked b s) (after b s (asked b s)) n w)
+          as-read b s r e (λ x. checked (rows b s x) x ≡ declined n → postOn b s ≡ declined n)
+          (λ w. post-is b s ∙ ap (λ (y : Answer Reading). onTaken y (λ _. checked (rows b s (asked b s)) (after b s (asked b s)))) e ∙ same-decline (rows b s (asked b s)) (asked b s) (after b s (asked b s)) n w)
           q
 
   -- one that is admitted was read, and passed 10 and 11
   as-admitted : (r : Reading) → asks ≡ taken r → (reads b s ≡ taken r) × (room b s r ≡ true) × (there b s r ≡ true)
   as-admitted r h =
-      let z = was-taken (reads b s) (λ x. checked (rows x) x) r (sym asks-is ∙ h) in
-      let y = passed (rows (z .0)) (z .0) r (z .2) in
+      let z = was-taken (reads b s) (λ x. checked (rows b s x) x) r (sym asks-is ∙ h) in
+      let y = passed (rows b s (z .0)) (z .0) r (z .2) in
       subst (λ (x : Reading). (reads b s ≡ taken x) × (room b s x ≡ true) × (there b s x ≡ true)) (sym (y .1)) (z .1, y .0 .0, y .0 .1 .0)
 
   -- so that it is taken

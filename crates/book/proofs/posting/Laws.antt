@@ -14,11 +14,27 @@ use Rattle.layout.specs.Outline.{mayPost}
 use Rattle.layout.specs.declared.post.Post.{Post}
 use Rattle.book.specs.Entered.{forms, enters, handles}
 use Rattle.book.specs.Ledger.{held, accountOf, cellOf, cell, total, moved, raised, brings, settled}
-use Rattle.book.specs.Posting.{withPost, received, issued, formed, transferred, closedBook, applied, storeAfter, sumsAfter, handledAfter, Applies, Entry}
+use Rattle.book.specs.Posting.{withPost, received, issued, formed, transferred, closedBook, applied, storeAfter, sumsAfter, handledAfter, Entry}
 use Rattle.book.specs.Site.{Sound, storedTo, content}
 use Rattle.book.specs.declared.site.Book.{Book}
 use Rattle.book.proofs.Sums.{sum-point}
 use Rattle.book.proofs.ledger.Laws.{total-set, total-other, cell-le, length-moved, total-moved, length-settled, total-settled, length-raised, handled-raised, total-raised}
+
+-- ---- what passing the checks tells of a post that is applied
+
+pub record Applies (b : Book) (p : Post) (n : ℕ) : Type 0 where
+  pub in-turn : mayPost (b .setup .outline) ≡ true
+  pub is-open : b .closed ≡ false
+  pub kind : (1 ≤ p .kind) × (p .kind ≤ 13)
+  pub material : p .kind ≤ 3 → p .material < 12
+  pub stage : p .stage < 8
+  pub substance : p .substance < 8
+  pub grams : p .kind ≤ 3 → p .quantity ≤ 2000000000
+  pub amount : n ≤ 2000000000000000
+  pub formed : p .kind ≡ 4 → n ≡ p .quantity
+  pub room : p .kind ≤ 12 → b .posts < 4000
+  pub in-store : p .kind ≡ 3 → p .quantity ≤ getD (b .store) (p .material) 0
+  pub in-holding : 5 ≤ p .kind → p .kind ≤ 12 → n ≤ cell (b .sums) held (p .stage) (p .substance)
 
 -- ---- what applies, by kind
 

@@ -20,7 +20,7 @@ use Rattle.layout.proofs.setup.Laws.{within-true}
 use Rattle.book.specs.Answer.{outcome}
 use Rattle.book.specs.Entered.{enters, handles}
 use Rattle.book.specs.Posting.{postOn}
-use Rattle.book.specs.Posts.{postIn, takenTo, numbered, withBlock, runOn, ownChecks, postsOn}
+use Rattle.book.specs.Posts.{postIn, takenTo, numbered, runOn, ownChecks, postsOn}
 use Rattle.book.specs.Site.{Sound, content}
 use Rattle.book.specs.declared.answer.Answered.{Answered}
 use Rattle.book.specs.declared.site.Book.{Book}
@@ -163,19 +163,17 @@ module _ (b : Book) (count : ℕ) (body : List ℕ) where
   own-declined n e = rw e
 
   -- and through the posts, which are a run
-  pub block-run : Sound b → owned ≡ taken count → runOn b (postIn body) count (b .blocks + 1) ≡ postsOn b count body
+  pub block-run : owned ≡ taken count → runOn b (postIn body) count (b .blocks + 1) ≡ postsOn b count body
   unfolding postsOn
-  block-run h passes =
-      rw passes
-      (on-taken (takenTo b (postIn body) count) _ _ (λ c e. ap (λ (k : ℕ). taken (numbered (k + 1) c)) (sym (many-taken b c (postIn body) count h e .same-blocks))))
+  block-run passes = rw passes
 
 taken-same : (x y : Book) → _≡_ {A = Answer Book} (taken x) (taken y) → x ≡ y
 taken-same x y e = cc
 
 module _ (b c : Book) (count : ℕ) (body : List ℕ) (e : postsOn b count body ≡ taken c) where
-  was-owned : (n : ℕ) × (owned b count body ≡ taken n) × (onTaken (takenTo b (postIn body) n) (λ d. taken (withBlock d)) ≡ taken c)
+  was-owned : (n : ℕ) × (owned b count body ≡ taken n) × (runOn b (postIn body) n (b .blocks + 1) ≡ taken c)
   unfolding postsOn
-  was-owned = was-taken (owned b count body) (λ n. onTaken (takenTo b (postIn body) n) (λ d. taken (withBlock d))) c e
+  was-owned = was-taken (owned b count body) (λ n. runOn b (postIn body) n (b .blocks + 1)) c e
 
   pub posts-own : Own (b .setup .outline) (b .closed) count body
   posts-own = own (b .setup .outline) (b .closed) count (was-owned .0) body (was-owned .1) .0
@@ -184,14 +182,14 @@ module _ (b c : Book) (count : ℕ) (body : List ℕ) (e : postsOn b count body 
   posts-count = (posts-own .some, posts-own .few, posts-own .in-turn)
 
   -- its posts, and one block more
-  pub posts-taken : (d : Book) × (takenTo b (postIn body) count ≡ taken d) × (c ≡ withBlock d)
+  pub posts-taken : (d : Book) × (takenTo b (postIn body) count ≡ taken d) × (c ≡ numbered (b .blocks + 1) d)
   posts-taken =
       let n = own (b .setup .outline) (b .closed) count (was-owned .0) body (was-owned .1) .1 in
-      let z = was-taken (takenTo b (postIn body) (was-owned .0)) (λ d. taken (withBlock d)) c (was-owned .2) in
-      (z .0, ap (takenTo b (postIn body)) (sym n) ∙ z .1, taken-same c (withBlock (z .0)) (sym (z .2)))
+      let z = was-taken (takenTo b (postIn body) (was-owned .0)) (λ d. taken (numbered (b .blocks + 1) d)) c (was-owned .2) in
+      (z .0, ap (takenTo b (postIn body)) (sym n) ∙ z .1, taken-same c (numbered (b .blocks + 1) (z .0)) (sym (z .2)))
 
-sound-block : (b : Book) → Sound b → b .blocks + 1 ≤ min (b .setup .outline .substances) 1 + b .setup .outline .described + b .posts → Sound (withBlock b)
-sound-block b h few =
+sound-block : (b : Book) (blocks : ℕ) → Sound b → blocks ≤ min (b .setup .outline .substances) 1 + b .setup .outline .described + b .posts → Sound (numbered blocks b)
+sound-block b blocks h few =
     record {
       setup = h .setup;
       store-long = h .store-long;
@@ -210,11 +208,11 @@ pub posts-sound : (b c : Book) (count : ℕ) (body : List ℕ) → Sound b → p
 posts-sound b c count body h e =
     let z = posts-taken b c count body e in
     let m = many-taken b (z .0) (postIn body) count h (z .1) in
-    let few : z .0 .blocks + 1 ≤ min (b .setup .outline .substances) 1 + b .setup .outline .described + z .0 .posts =
-    omega (arith, h .blocks-few, m .same-blocks, m .more, posts-count b c count body e .0) in
+    let few : b .blocks + 1 ≤ min (b .setup .outline .substances) 1 + b .setup .outline .described + z .0 .posts =
+    omega (arith, h .blocks-few, m .more, posts-count b c count body e .0) in
     subst Sound (sym (z .2))
-    (sound-block (z .0) (m .sound)
-    (subst (λ (u : Setup). z .0 .blocks + 1 ≤ min (u .outline .substances) 1 + u .outline .described + z .0 .posts) (sym (m .same-setup)) few))
+    (sound-block (z .0) (b .blocks + 1) (m .sound)
+    (subst (λ (u : Setup). b .blocks + 1 ≤ min (u .outline .substances) 1 + u .outline .described + z .0 .posts) (sym (m .same-setup)) few))
 
 -- ---- every call
 

@@ -10,13 +10,13 @@ use lib.Seq.{take-length}
 use Rattle.amounts.specs.Decline.{Answer, taken, declined}
 use Rattle.layout.specs.declared.setup.Setup.{Setup}
 use Rattle.book.specs.Ledger.{held, cell, total, settled}
-use Rattle.book.specs.Posting.{withPost, applied, storeAfter, sumsAfter, handledAfter, admitted, postOn, Applies, Entry}
+use Rattle.book.specs.Posting.{withPost, applied, storeAfter, sumsAfter, handledAfter, admitted, postOn, Entry}
 use Rattle.book.specs.Posts.{partOf, takenTo, runOn}
 use Rattle.book.specs.Site.{Sound}
 use Rattle.book.specs.declared.posting.Reading.{Reading}
 use Rattle.book.specs.declared.site.Book.{Book}
 use Rattle.book.proofs.posting.Checks.{not-admitted, was-admitted, admitted-applies}
-use Rattle.book.proofs.posting.Laws.{applied-lists, applied-close, entry-of, total-few, handled-few}
+use Rattle.book.proofs.posting.Laws.{Applies, applied-lists, applied-close, entry-of, total-few, handled-few}
 use Rattle.book.proofs.posts.Laws.{none-yet, taken-next, many-taken, run-same}
 
 -- ---- the parts of bytes

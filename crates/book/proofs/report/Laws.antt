@@ -20,8 +20,7 @@ use Rattle.layout.specs.declared.setup.Rates.{Rates}
 use Rattle.layout.specs.declared.setup.Setup.{Setup}
 use Rattle.layout.proofs.Each.{sum-again}
 use Rattle.book.specs.Ledger.{cell, total}
-use Rattle.book.specs.Report.{atOne, atTwo, ratesOf, stageLine, lineTo, sixOf, weigh, mapHeadings, filingOf, dueIn, reportAt, reportOf}
-use Rattle.book.specs.Reporting.{cellsOf, weighCells, lineFrom, lineOf, addLines}
+use Rattle.book.specs.Report.{atOne, atTwo, ratesOf, cellsOf, lineFrom, lineFor, stageLine, lineTo, sixOf, weigh, mapHeadings, filingOf, dueIn, reportAt, reportOf, weighCells, addLines}
 use Rattle.book.specs.Site.{stored, content, Rated, Sound}
 use Rattle.book.specs.declared.report.Cells.{Cells}
 use Rattle.book.specs.declared.report.Headings.{Headings}
@@ -47,7 +46,7 @@ module _ (c : Cells) (r : Rates) (h : Rated r) where
   water-conserved p e = rw e (conserved (c .water) (r .«water_removal») (r .«water_destruction») (h .water-removal) (h .water-destruction))
 
   -- a stage's line weighs what its cells do
-  pub weigh-line : (waterTo residueTo : ℕ) → weigh (lineOf c r waterTo residueTo) ≡ weighCells c
+  pub weigh-line : (waterTo residueTo : ℕ) → weigh (lineFor c r waterTo residueTo) ≡ weighCells c
   weigh-line waterTo residueTo =
       let g : Parts = partsOf (c .gas) (r .«gas_removal») (r .«gas_destruction») in
       let w : Parts = partsOf (c .water) (r .«water_removal») (r .«water_destruction») in
@@ -106,7 +105,7 @@ pub line-is : (c : Cells) (r : Rates) (waterTo residueTo : ℕ) (g w : Parts) (c
     → g ≡ partsOf (c .gas) (r .«gas_removal») (r .«gas_destruction») → w ≡ partsOf (c .water) (r .«water_removal») (r .«water_destruction»)
     → clean ≡ atOne waterTo (w .released) → waste ≡ atTwo residueTo (g .residue + w .residue) → sewer ≡ atTwo waterTo (w .released) → off ≡ atOne residueTo (g .residue + w .residue)
     → _≡_ {A = Line} (record { held = c .held; shipped = c .shipped; consumed = c .consumed; destroyed = g .destroyed + w .destroyed; headings = record { air = g .released + c .vapour; water = clean; soil = c .soil; land = c .landfill + waste; sewer = sewer; offsite = c .«off_site» + off } })
-    (lineOf c r waterTo residueTo)
+    (lineFor c r waterTo residueTo)
 line-is c r waterTo residueTo g w clean waste sewer off eg ew e1 e2 e3 e4 =
     rw (e1, e2, e3, e4) (ap₂ (λ (x y : Parts). lineFrom c x y waterTo residueTo) eg ew)
 

@@ -21,9 +21,8 @@ use Rattle.book.specs.Answer.{outcome}
 use Rattle.book.specs.Site.{freshBook, Sound}
 use Rattle.book.specs.declared.answer.Answered.{Answered}
 use Rattle.book.specs.declared.site.Book.{Book}
-use Rattle.book.specs.Posts.{postIn}
 use Rattle.book.proofs.answer.Laws.{was-accepted, was-declined}
-use Rattle.book.proofs.posts.Laws.{many-taken, posts-taken, posts-sound}
+use Rattle.book.proofs.posts.Laws.{posts-taken, posts-sound}
 use Rattle.book.proofs.setup.Taken.{set-up-taken}
 use Rattle.book.proofs.stage.Taken.{described-taken}
 use Rattle.book.proofs.site.Laws.{sound-fresh}
@@ -67,10 +66,7 @@ block-next b c s h e = go (block-taken b c s e .1)
     go : Kind b s c → Sound c × (c .blocks ≡ suc (b .blocks))
     go (sets k f) = let z = set-up-taken b c (countOf s) (bodyOf s) h f in (z .2, ap (λ (x : Book). x .blocks) (z .0) ∙ add-one (b .blocks))
     go (describes k f) = let z = described-taken b c (countOf s) (bodyOf s) h f in (z .2, ap (λ (x : Book). x .blocks) (z .0) ∙ add-one (b .blocks))
-    go (posts k f) =
-        let z = posts-taken b c (countOf s) (bodyOf s) f in
-        let m = many-taken b (z .0) (postIn (bodyOf s)) (countOf s) h (z .1) in
-        (posts-sound b c (countOf s) (bodyOf s) h f, ap (λ (x : Book). x .blocks) (z .2) ∙ add-one (z .0 .blocks) ∙ ap suc (m .same-blocks))
+    go (posts k f) = let z = posts-taken b c (countOf s) (bodyOf s) f in (posts-sound b c (countOf s) (bodyOf s) h f, ap (λ (x : Book). x .blocks) (z .2) ∙ add-one (b .blocks))
 
 -- after a decline nothing changes
 pub stays-all : (b : Book) (d : Decline) (parts : List (List ℕ)) → fedAll (record { book = b; stopped = By d }) parts ≡ record { book = b; stopped = By d }

@@ -11,10 +11,10 @@ use lib.Dec.{ltb, leb, lit<}
 use lib.ListN.{length, take, drop, getD, set, length-append, length-drop, replicate, length-replicate, take-append-drop}
 use lib.Seq.{take-at, drop-at, drop-drop, length-take-le, set-split, append-snoc, take-length, paste, paste-suc}
 use borrow.Author.Tests.{lt-ltb, le-ltb, le-leb, lt-leb, leb-true, not-true, not-false}
+use Rattle.amounts.proofs.filed.Laws.{either}
 use Rattle.book.specs.declared.report.Filing.{Filing}
 use Rattle.book.specs.declared.report.Filing.the-variants.{Figures, NotDue}
 use Rattle.book.specs.declared.report.Report.{Report}
-use Rattle.amounts.proofs.filed.Laws.{either}
 use Rattle.journal.specs.Text.{space, lineFeed, digit, digitsTo, decimal, yesNo, figureText, filingText, lineText, refusedText}
 use Rattle.journal.specs.declared.text.Written.the-variants.{At, NoRoom}
 use Rattle.journal.specs.Writing.{written, Room, Puts, triedIn, triedAnswer, Tries}

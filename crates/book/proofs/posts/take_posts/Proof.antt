@@ -56,7 +56,7 @@ returns-2 c =
     let k = c .before .before in
     let s = k .before .before .before .before .before .before in
     let a = s .args in
-    let e = c .take-run .ensures ∙ ap (outcome (a .b)) (block-run (a .b) (a .count) (now (a .body)) (s .pre) (passes k)) in
+    let e = c .take-run .ensures ∙ ap (outcome (a .b)) (block-run (a .b) (a .count) (now (a .body)) (passes k)) in
     (e, sound-after (a .b) (postsOn (a .b) (a .count) (now (a .body))) (c .take-run .result) (s .pre) (λ d. posts-sound (a .b) d (a .count) (now (a .body)) (s .pre)) e)
 
 pub take-posts-spec : {M : Type 1} → statement M

@@ -4,8 +4,7 @@ use Prim.Native.Nat.{ℕ, _+_, _-_, _*_, _^_, _≤_, _<_}
 use native.Mathlib.Omega.{arith}
 use lib.ListN.{getD}
 use denote.Ref.{now}
-use Rattle.book.specs.Report.{ratesOf, stageLine, lineTo}
-use Rattle.book.specs.Reporting.{weighCells, lineOf, addLines}
+use Rattle.book.specs.Report.{ratesOf, lineFor, stageLine, lineTo, weighCells, addLines}
 use Rattle.book.specs.declared.report.Cells.{Cells}
 use Rattle.book.proofs.report.Laws.{line-none, line-again, next-room, cells-room}
 use Rattle.book.proofs.report.line_to.Statement.{statement}
@@ -33,7 +32,7 @@ staged c =
     let l = c .before .before .before .before .before .before in
     let u = l .before .args .t2 in
     c .line-of .ensures
-    ∙ ap (λ (x : Cells). lineOf x (ratesOf u (l .loop .k) (l .before .args .s)) (getD (u .«water_to») (l .loop .k) 0) (getD (u .«residue_to») (l .loop .k) 0))
+    ∙ ap (λ (x : Cells). lineFor x (ratesOf u (l .loop .k) (l .before .args .s)) (getD (u .«water_to») (l .loop .k) 0) (getD (u .«residue_to») (l .loop .k) 0))
     (c .before .before .before .before .cells-of .ensures)
 
 loop-holds : tie.Need-loop-holds Inv-loop μ-loop
