@@ -32,38 +32,38 @@ withPost b store sums handled closed =
     }
 
 -- "1 opening, 2 bought: material, g. The store of that material grows."
-abbrev pub received : Book → ℕ → ℕ → Book
-received b m g = withPost b (set (b .store) m (getD (b .store) m 0 + g)) (b .sums) (b .handled) (b .closed)
+abbrev pub afterReceipt : Book → ℕ → ℕ → Book
+afterReceipt b m g = withPost b (set (b .store) m (getD (b .store) m 0 + g)) (b .sums) (b .handled) (b .closed)
 
 -- "3 issued: material, stage, g. The store falls; the stage's holding of each substance grows by g times counted content."
-abbrev pub issued : Book → ℕ → ℕ → ℕ → Book
-issued b m stage g =
+abbrev pub afterIssue : Book → ℕ → ℕ → ℕ → Book
+afterIssue b m stage g =
     withPost b (set (b .store) m (getD (b .store) m 0 - g))
     (raised (cellOf held stage) (brings (b .setup .counted) m g) (b .sums) 8)
     (raised (λ s. s) (brings (b .setup .counted) m g) (b .handled) 8)
     (b .closed)
 
 -- "4 formed: stage, substance, micrograms in quantity. The holding grows."
-abbrev pub formed : Book → ℕ → ℕ → ℕ → Book
-formed b stage s n =
+abbrev pub afterForming : Book → ℕ → ℕ → ℕ → Book
+afterForming b stage s n =
     withPost b (b .store) (set (b .sums) (cellOf held stage s) (cell (b .sums) held stage s + n)) (set (b .handled) s (getD (b .handled) s 0 + n)) (b .closed)
 
 -- 5 to 11: "The holding falls by g times content, which is added under that name." 12: "The holding falls by the loss, which goes to air untreated."
-abbrev pub transferred : Book → ℕ → ℕ → ℕ → ℕ → Book
-transferred b account stage s n =
+abbrev pub afterTransfer : Book → ℕ → ℕ → ℕ → ℕ → Book
+afterTransfer b account stage s n =
     withPost b (b .store) (moved (b .sums) (cellOf held stage s) (cellOf account stage s) n) (b .handled) (b .closed)
 
 -- "13 close. Each holding moves to gas or waste water, by that pair's side, and no post follows."
-abbrev pub closedBook : Book → Book
-closedBook b = withPost b (b .store) (settled (b .sums) (b .setup .rates) 64) (b .handled) true
+abbrev pub afterClose : Book → Book
+afterClose b = withPost b (b .store) (settled (b .sums) (b .setup .rates) 64) (b .handled) true
 
 unfoldable pub applied : Book → Post → ℕ → Book
 applied b p n =
-    cond (leb (p .kind) 2) (received b (p .material) (p .quantity))
-    (cond (eqb (p .kind) 3) (issued b (p .material) (p .stage) (p .quantity))
-    (cond (eqb (p .kind) 4) (formed b (p .stage) (p .substance) n)
-    (cond (leb (p .kind) 12) (transferred b (accountOf (p .kind)) (p .stage) (p .substance) n)
-    (closedBook b))))
+    cond (leb (p .kind) 2) (afterReceipt b (p .material) (p .quantity))
+    (cond (eqb (p .kind) 3) (afterIssue b (p .material) (p .stage) (p .quantity))
+    (cond (eqb (p .kind) 4) (afterForming b (p .stage) (p .substance) n)
+    (cond (leb (p .kind) 12) (afterTransfer b (accountOf (p .kind)) (p .stage) (p .substance) n)
+    (afterClose b))))
 
 -- ---- the same by the lists: what a post before the close makes of each
 

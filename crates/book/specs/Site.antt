@@ -49,8 +49,8 @@ abbrev pub stored : Book → ℕ → ℕ
 stored b s = storedTo (b .store) (b .setup .counted) s 12
 
 -- what a book holds of a substance, in store and out of it
-abbrev pub content : Book → ℕ → ℕ
-content b s = total (b .sums) s + stored b s
+abbrev pub inBook : Book → ℕ → ℕ
+inBook b s = total (b .sums) s + stored b s
 
 -- "to 1,000,000"
 pub record Rated (r : Rates) : Type 0 where
@@ -82,7 +82,7 @@ pub record Sound (b : Book) : Type 0 where
   pub while-open : b .closed ≡ false → b .posts ≤ 4000
   pub none-before : mayPost (b .setup .outline) ≡ false → b .posts ≡ 0
   pub blocks-few : b .blocks ≤ min (b .setup .outline .substances) 1 + b .setup .outline .described + b .posts
-  pub bounded : (s : ℕ) → s < 8 → content b s ≤ 2 * 10 ^ 15 * b .posts
+  pub bounded : (s : ℕ) → s < 8 → inBook b s ≤ 2 * 10 ^ 15 * b .posts
   pub stores : (m : ℕ) → m < 12 → getD (b .store) m 0 ≤ 2 * 10 ^ 9 * b .posts
   -- what was handled is what the ledger holds: the one is added up as it comes in, the other is where it went
   pub weighed : (s : ℕ) → s < 8 → getD (b .handled) s 0 ≡ total (b .sums) s

@@ -11,7 +11,7 @@ use lib.ListN.{length, getD}
 use Rattle.layout.specs.Setup.{noRates}
 use Rattle.layout.specs.declared.setup.Rates.{Rates}
 use Rattle.book.specs.Ledger.{held, water, gas, at, cell, moved, closesTo, settled}
-use Rattle.book.specs.Posting.{closedBook}
+use Rattle.book.specs.Posting.{afterClose}
 use Rattle.book.specs.Report.{ratesOf}
 use Rattle.book.specs.Site.{Sound}
 use Rattle.book.specs.declared.site.Book.{Book}
@@ -120,7 +120,7 @@ pub record Closes (b c : Book) : Type 0 where
       → cell (c .sums) (1 + i) k s ≡ cell (b .sums) (1 + i) k s + cond (eqb (1 + i) (closesTo (ratesOf (b .setup) k s))) (cell (b .sums) held k s) 0
 
 -- the holdings go to gas or waste water, and nothing else moves
-pub closes-cells : (b : Book) → Sound b → Closes b (closedBook b)
+pub closes-cells : (b : Book) → Sound b → Closes b (afterClose b)
 closes-cells b sound =
     record {
       emptied = λ k s hk hs. settled-held (b .sums) (b .setup .rates) (sound .sums-long) 64 (k * 8 + s) (omega arith) (omega arith);

@@ -24,7 +24,7 @@ use Rattle.book.specs.Posting.{postOn}
 use Rattle.book.specs.Posts.{postIn, postsOn, numbered}
 use Rattle.book.specs.Report.{mapHeadings, filingOf, reportAt}
 use Rattle.book.specs.Setup.{setUpOn, withSetup}
-use Rattle.book.specs.Site.{Sound, content, freshBook}
+use Rattle.book.specs.Site.{Sound, inBook, freshBook}
 use Rattle.book.specs.Stage.{describedOn, withStage}
 use Rattle.book.specs.declared.site.Book.{Book}
 use Rattle.book.proofs.posting.Checks.{AllPass, passed, post-was-taken}
@@ -35,7 +35,7 @@ use Rattle.book.proofs.posts.Laws.{post-step, Many, many-taken, posts-count, po
 use Rattle.book.proofs.setup.Taken.{set-up-taken}
 use Rattle.book.proofs.stage.Taken.{described-taken}
 use Rattle.journal.specs.Block.{kindOf, countOf, bodyOf, frameChecks, byKind, blockOn}
-use Rattle.journal.specs.Demand.{Call, post, block, answerTo, after, run, keep, accepted, postsIn, postsOf, blocksIn, blocksOf, countedOf, sumOver, Balanced}
+use Rattle.journal.specs.Demand.{Call, post, block, answerTo, after, run, keep, accepted, postsIn, postsOf, blocksIn, blocksOf, countedIn, sumOver, Balanced}
 
 -- ---- an accepted block
 
@@ -90,7 +90,7 @@ record Grown (k : List ℕ) (b : Book) (ps : List (List ℕ)) (c : Book) : Type 
   some : 1 ≤ c .setup .outline .substances
   same : c .setup .counted ≡ k
   more : c .posts ≡ b .posts + length ps
-  entered : (s : ℕ) → s < 8 → content c s ≡ content b s + sumOver (λ p. enters k s (postAt p)) ps
+  entered : (s : ℕ) → s < 8 → inBook c s ≡ inBook b s + sumOver (λ p. enters k s (postAt p)) ps
   handled : (s : ℕ) → s < 8 → getD (c .handled) s 0 ≡ getD (b .handled) s 0 + sumOver (λ p. handles k s (postAt p)) ps
 
 -- no posts bring nothing
@@ -173,7 +173,7 @@ many-grown b d f n blocks l m h =
       some = subst (λ (u : Setup). 1 ≤ u .outline .substances) (sym (m .same-setup)) l;
       same = ap (λ (u : Setup). u .counted) (m .same-setup);
       more = m .more ∙ ap (λ (i : ℕ). b .posts + i) (sym (length-list n f));
-      entered = λ s g. m .entered s g ∙ ap (λ (i : ℕ). content b s + i) (sym (sum-list (λ p. enters (b .setup .counted) s (postAt p)) n f));
+      entered = λ s g. m .entered s g ∙ ap (λ (i : ℕ). inBook b s + i) (sym (sum-list (λ p. enters (b .setup .counted) s (postAt p)) n f));
       handled = λ s g. m .handled s g ∙ ap (λ (i : ℕ). getD (b .handled) s 0 + i) (sym (sum-list (λ p. handles (b .setup .counted) s (postAt p)) n f));
     }
 
@@ -277,7 +277,7 @@ record Begun (calls : List Call) (d : Book) : Type 0 where
   start : Book
   sound : Sound start
   none : start .posts ≡ 0
-  contents : countedOf calls ≡ start .setup .counted
+  contents : countedIn calls ≡ start .setup .counted
   grown : Grown (start .setup .counted) start (postsOf calls) d
 
 -- a list of calls that gives substances to a book without any has set it up on the way
@@ -325,7 +325,7 @@ balanced calls d s l h g =
     record {
       weighed-in =
           ap (λ (k : List ℕ). sumOver (λ p. enters k s (postAt p)) (postsOf calls)) (g .contents)
-          ∙ from-none _ _ _ _ (g .grown .entered s l) (nothing (content c s) (c .posts) (g .sound .bounded s l) (g .none)) (report-entered d h s l);
+          ∙ from-none _ _ _ _ (g .grown .entered s l) (nothing (inBook c s) (c .posts) (g .sound .bounded s l) (g .none)) (report-entered d h s l);
       weighed-out = out;
       shown = sym (report-handled d h s l) ∙ sym out;
       figures = λ e.

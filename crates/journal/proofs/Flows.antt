@@ -14,7 +14,7 @@ use Rattle.layout.specs.declared.post.Post.{Post}
 use Rattle.layout.proofs.Each.{sum-none, put-other}
 use Rattle.book.specs.Amount.{amountOf}
 use Rattle.book.specs.Ledger.{held, accountOf, cellOf, cell, moved, raised, brings}
-use Rattle.book.specs.Posting.{received, issued, formed, transferred, applied}
+use Rattle.book.specs.Posting.{afterReceipt, afterIssue, afterForming, afterTransfer, applied}
 use Rattle.book.specs.Site.{Sound}
 use Rattle.book.specs.declared.site.Book.{Book}
 use Rattle.book.proofs.Sums.{sum-point}
@@ -249,7 +249,7 @@ pub record Flows (b : Book) (p : Post) (c : Book) : Type 0 where
 
 module _ (b : Book) (p : Post) where
   -- a receipt leaves the sums alone
-  flows-receipt : p .kind ≤ 2 → Flows b p (received b (p .material) (p .quantity))
+  flows-receipt : p .kind ≤ 2 → Flows b p (afterReceipt b (p .material) (p .quantity))
   flows-receipt h =
       let numbers = b .setup .numbers in
       record {
@@ -264,7 +264,7 @@ module _ (b : Book) (p : Post) where
 
   module _ (long : length (b .sums) ≡ 576) (hst : p .stage < 8) where
     -- an issue raises the holdings of its stage
-    flows-issue : p .kind ≡ 3 → Flows b p (issued b (p .material) (p .stage) (p .quantity))
+    flows-issue : p .kind ≡ 3 → Flows b p (afterIssue b (p .material) (p .stage) (p .quantity))
     flows-issue kind =
         let numbers = b .setup .numbers in
         let counted = b .setup .counted in
@@ -284,7 +284,7 @@ module _ (b : Book) (p : Post) where
 
     module _ (n : ℕ) (same : amountOf (b .setup .numbers) p ≡ n) (ht : p .substance < 8) where
       -- a forming raises one holding
-      flows-forming : p .kind ≡ 4 → Flows b p (formed b (p .stage) (p .substance) n)
+      flows-forming : p .kind ≡ 4 → Flows b p (afterForming b (p .stage) (p .substance) n)
       flows-forming kind =
           let numbers = b .setup .numbers in
           let grown = cell (b .sums) held (p .stage) (p .substance) + n in
@@ -303,7 +303,7 @@ module _ (b : Book) (p : Post) where
           }
 
       -- a transfer takes from one holding what it adds to one account
-      flows-transfer : 5 ≤ p .kind → p .kind ≤ 12 → n ≤ cell (b .sums) held (p .stage) (p .substance) → Flows b p (transferred b (accountOf (p .kind)) (p .stage) (p .substance) n)
+      flows-transfer : 5 ≤ p .kind → p .kind ≤ 12 → n ≤ cell (b .sums) held (p .stage) (p .substance) → Flows b p (afterTransfer b (accountOf (p .kind)) (p .stage) (p .substance) n)
       flows-transfer low high have =
           let numbers = b .setup .numbers in
           record {

@@ -17,7 +17,7 @@ use Rattle.layout.specs.declared.setup.Setup.{Setup}
 use Rattle.layout.proofs.Each.{sum-none}
 use Rattle.book.specs.Amount.{amountOf}
 use Rattle.book.specs.Ledger.{held, cell, closesTo}
-use Rattle.book.specs.Posting.{closedBook, applied, postOn}
+use Rattle.book.specs.Posting.{afterClose, applied, postOn}
 use Rattle.book.specs.Posts.{takenTo}
 use Rattle.book.specs.Report.{ratesOf}
 use Rattle.book.specs.Site.{Sound}
@@ -205,7 +205,7 @@ module _ (b : Book) (ps : List (List ℕ)) (x : List ℕ) (h : Sound b) (a : App
       let last : postAt x .kind ≡ 13 = omega (arith, a .kind .1) in
       let e = applied-close b (postAt x) (amountOf (b .setup .numbers) (postAt x)) (omega arith) in
       subst (λ (y : Book). State (b .setup) (ps ++ (x ∷ [])) (y .sums) (y .closed)) (sym e)
-      (shut refl (closes-last ps x (eq-eqb (postAt x .kind) 13 last)) (shut-next b (closedBook b) ps x last o (closes-cells b h)))
+      (shut refl (closes-last ps x (eq-eqb (postAt x .kind) 13 last)) (shut-next b (afterClose b) ps x last o (closes-cells b h)))
 
   state-next : State (b .setup) ps (b .sums) (b .closed) → State (b .setup) (ps ++ (x ∷ [])) (result .sums) (result .closed)
   state-next (still-open e q o) = state-open q o (decLe (postAt x .kind) 12)

@@ -26,7 +26,7 @@ use Rattle.book.specs.declared.site.Book.{Book}
 use Rattle.book.proofs.Sums.{sum-same}
 use Rattle.journal.specs.Block.{bodyOf}
 use Rattle.journal.specs.Demand as demand
-use Rattle.journal.specs.Demand.{Call, run, accepted, postsOf, blocksOf, setUpOf, substancesOf, countedOf, sumOver, Balanced}
+use Rattle.journal.specs.Demand.{Call, run, accepted, postsOf, blocksOf, setUpBlock, substancesOf, countedIn, sumOver, Balanced}
 use Rattle.journal.specs.Weighing.{numbersOf, classOf, waterTo, residueTo, ratesFor, stocks, opening, bought, issued, store, issues, moves, under, formed, handled, came, left, remains, closes, heldAt, toGas, toWater, gasTotal, waterTotal, lineOf, told, answerOf, Weighed, ReportByPosts}
 use Rattle.journal.proofs.Demand.{report-balanced}
 use Rattle.journal.proofs.Posted.{cameSum, leftSum, movedSum, State, still-open, shut}
@@ -65,15 +65,15 @@ over-two f g h (p ∷ ps) e = omega (arith, e p, over-two f g h ps e)
 
 handled-posts : (calls : List Call) (s : ℕ) → demand.handled calls s ≡ handled calls s
 handled-posts calls s =
-    over-two (λ p. handles (countedOf calls) s (postAt p)) (λ p. stocks (countedOf calls) 3 s (postAt p)) (λ p. forms s (postAt p)) (postsOf calls)
-    (λ p. handles-is (countedOf calls) s (postAt p))
+    over-two (λ p. handles (countedIn calls) s (postAt p)) (λ p. stocks (countedIn calls) 3 s (postAt p)) (λ p. forms s (postAt p)) (postsOf calls)
+    (λ p. handles-is (countedIn calls) s (postAt p))
 
 entered-posts : (calls : List Call) (s : ℕ) → demand.entered calls s ≡ opening calls s + bought calls s + formed calls s
 entered-posts calls s =
-    over-two (λ p. enters (countedOf calls) s (postAt p)) (λ p. stocks (countedOf calls) 1 s (postAt p) + stocks (countedOf calls) 2 s (postAt p)) (λ p. forms s (postAt p)) (postsOf calls)
-    (λ p. enters-is (countedOf calls) s (postAt p))
+    over-two (λ p. enters (countedIn calls) s (postAt p)) (λ p. stocks (countedIn calls) 1 s (postAt p) + stocks (countedIn calls) 2 s (postAt p)) (λ p. forms s (postAt p)) (postsOf calls)
+    (λ p. enters-is (countedIn calls) s (postAt p))
     ∙ ap (λ (n : ℕ). n + formed calls s)
-    (over-two (λ p. stocks (countedOf calls) 1 s (postAt p) + stocks (countedOf calls) 2 s (postAt p)) (λ p. stocks (countedOf calls) 1 s (postAt p)) (λ p. stocks (countedOf calls) 2 s (postAt p)) (postsOf calls) (λ p. refl))
+    (over-two (λ p. stocks (countedIn calls) 1 s (postAt p) + stocks (countedIn calls) 2 s (postAt p)) (λ p. stocks (countedIn calls) 1 s (postAt p)) (λ p. stocks (countedIn calls) 2 s (postAt p)) (postsOf calls) (λ p. refl))
 
 -- ---- a stage's sums
 
@@ -166,10 +166,10 @@ module _ (calls : List Call) (b : Book) (t : List ℕ) (first : blocksOf 1 calls
   few : s < 8
   few = omega (arith, h .posted .sound .setup .substances-few)
 
-  block-is : setUpOf calls ≡ t
+  block-is : setUpBlock calls ≡ t
   block-is = ap (λ (x : List (List ℕ)). getD x 0 []) first
 
-  counted-is : b .setup .counted ≡ countedOf calls
+  counted-is : b .setup .counted ≡ countedIn calls
   counted-is = up .counted ∙ sym (ap (λ (x : List ℕ). countedAll (classesIn (bodyOf x)) (contentsIn (bodyOf x))) block-is)
 
   numbers-are : b .setup .numbers ≡ numbersOf calls

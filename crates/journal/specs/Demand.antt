@@ -66,16 +66,16 @@ blocksOf kind [] = []
 blocksOf kind (call ∷ calls) = blocksIn kind call ++ blocksOf kind calls
 
 -- "that kind 1 block", and no bytes before it
-abbrev pub setUpOf : List Call → List ℕ
-setUpOf calls = getD (blocksOf 1 calls) 0 []
+abbrev pub setUpBlock : List Call → List ℕ
+setUpBlock calls = getD (blocksOf 1 calls) 0 []
 
 -- "The book has the substances of the accepted kind 1 block, and none before it"
 abbrev pub substancesOf : List Call → ℕ
-substancesOf calls = countOf (setUpOf calls)
+substancesOf calls = countOf (setUpBlock calls)
 
 -- "contents and classes being those of that kind 1 block": the contents as counted
-abbrev pub countedOf : List Call → List ℕ
-countedOf calls = countedAll (classesIn (bodyOf (setUpOf calls))) (contentsIn (bodyOf (setUpOf calls)))
+abbrev pub countedIn : List Call → List ℕ
+countedIn calls = countedAll (classesIn (bodyOf (setUpBlock calls))) (contentsIn (bodyOf (setUpBlock calls)))
 
 -- "All is added over the accepted posts of the list"
 unfoldable pub sumOver : (List ℕ → ℕ) → List (List ℕ) → ℕ
@@ -83,10 +83,10 @@ sumOver f [] = 0
 sumOver f (p ∷ ps) = f p + sumOver f ps
 
 abbrev pub entered : List Call → ℕ → ℕ
-entered calls s = sumOver (λ p. enters (countedOf calls) s (postAt p)) (postsOf calls)
+entered calls s = sumOver (λ p. enters (countedIn calls) s (postAt p)) (postsOf calls)
 
 abbrev pub handled : List Call → ℕ → ℕ
-handled calls s = sumOver (λ p. handles (countedOf calls) s (postAt p)) (postsOf calls)
+handled calls s = sumOver (λ p. handles (countedIn calls) s (postAt p)) (postsOf calls)
 
 -- twice one number is at most twice another and the steps
 abbrev pub withinHalf : ℕ → ℕ → ℕ → Type 0

@@ -21,8 +21,8 @@ unfoldable pub partsTo : ℕ → List ℕ → List (List ℕ)
 partsTo zero s = []
 partsTo (suc n) s = cond (eqb (length s) 0) [] (take 512 s ∷ partsTo n (drop 512 s))
 
-abbrev pub partsOf : List ℕ → List (List ℕ)
-partsOf s = partsTo (length s) s
+abbrev pub partsIn : List ℕ → List (List ℕ)
+partsIn s = partsTo (length s) s
 
 -- the book after the last block, or the first decline: the block's place from 0, and the number
 pub data Outcome : Type 0 where
@@ -51,8 +51,8 @@ outcomeText (read b) = returnText b
 outcomeText (refused place n) = refusedText place n
 
 -- what `filing` prints of a journal
-abbrev pub filingOf : List ℕ → List ℕ
-filingOf s = outcomeText (readAll freshBook 0 (partsOf s))
+abbrev pub printedOf : List ℕ → List ℕ
+printedOf s = outcomeText (readAll freshBook 0 (partsIn s))
 
 -- ---- the same, a part at a time
 

@@ -24,15 +24,15 @@ use Rattle.book.specs.Site.{freshBook}
 use Rattle.book.specs.declared.report.Line.{Line}
 use Rattle.book.specs.declared.report.Report.{Report}
 use Rattle.journal.specs.Block.{countOf, bodyOf}
-use Rattle.journal.specs.Demand.{Call, run, accepted, postsOf, blocksOf, setUpOf, substancesOf, countedOf, sumOver}
+use Rattle.journal.specs.Demand.{Call, run, accepted, postsOf, blocksOf, setUpBlock, substancesOf, countedIn, sumOver}
 
 -- ---- the set-up, by its bytes
 
 abbrev pub numbersOf : List Call → List ℕ
-numbersOf calls = numbersIn (bodyOf (setUpOf calls))
+numbersOf calls = numbersIn (bodyOf (setUpBlock calls))
 
 abbrev pub classOf : List Call → ℕ → ℕ
-classOf calls s = getD (classesIn (bodyOf (setUpOf calls))) s 0
+classOf calls s = getD (classesIn (bodyOf (setUpBlock calls))) s 0
 
 -- "Kind 2, once per stage in order. Count: the stage."
 unfoldable pub stageIn : ℕ → List (List ℕ) → List ℕ
@@ -69,7 +69,7 @@ moves numbers kind stage s p = cond (eqb (p .kind) kind && (eqb (p .stage) stage
 -- ---- the year's sums
 
 abbrev pub stock : ℕ → List Call → ℕ → ℕ
-stock kind calls s = sumOver (λ p. stocks (countedOf calls) kind s (postAt p)) (postsOf calls)
+stock kind calls s = sumOver (λ p. stocks (countedIn calls) kind s (postAt p)) (postsOf calls)
 
 abbrev pub opening : List Call → ℕ → ℕ
 opening calls s = stock 1 calls s
@@ -85,7 +85,7 @@ abbrev pub store : List Call → ℕ → ℕ
 store calls s = opening calls s + bought calls s - issued calls s
 
 abbrev pub issuedTo : List Call → ℕ → ℕ → ℕ
-issuedTo calls s stage = sumOver (λ p. issues (countedOf calls) stage s (postAt p)) (postsOf calls)
+issuedTo calls s stage = sumOver (λ p. issues (countedIn calls) stage s (postAt p)) (postsOf calls)
 
 -- under a kind's name, at a stage: "4 formed", "5 shipped, 6 waste off site, 7 landfill on site, 8 soil, 9 consumed, 10 to gas, 11 to waste water", "12 vapour"
 abbrev pub under : ℕ → List Call → ℕ → ℕ → ℕ

@@ -3,7 +3,7 @@ ghost use mathlib.Core.Path.{_≡_};
 ghost use Prim.Native.Nat.{_+_, _≤_, min};
 ghost use lib.ListN.{length};
 ghost use Rattle.book.specs.Site.{Sound};
-ghost use Rattle.journal.specs.Reading.{partsOf, started, fed, fedAll, hasStopped, returnText, textOf};
+ghost use Rattle.journal.specs.Reading.{partsIn, started, fed, fedAll, hasStopped, returnText, textOf};
 ghost use Rattle.journal.specs.Writing.{Puts, Tries};
 use crate::block;
 use crate::text;
@@ -85,7 +85,7 @@ fn part_end(at: usize, length: usize) -> usize
 
 // A whole journal, in parts of 512 bytes, the last one perhaps shorter, up to the first that is declined.
 pub fn read_whole(journal: &[u8]) -> Reading
-    ensures { λ r. ⌜ r ≡ fedAll started (partsOf (now (journal .entry))) ⌝ }
+    ensures { λ r. ⌜ r ≡ fedAll started (partsIn (now (journal .entry))) ⌝ }
     ensures { λ r. ⌜ Sound (r .book) ⌝ }
 {
     let mut b = site::fresh();

@@ -14,8 +14,8 @@ use Rattle.layout.specs.Outline.{mayPost}
 use Rattle.layout.specs.declared.post.Post.{Post}
 use Rattle.book.specs.Entered.{forms, enters, handles}
 use Rattle.book.specs.Ledger.{held, accountOf, cellOf, cell, total, moved, raised, brings, settled}
-use Rattle.book.specs.Posting.{withPost, received, issued, formed, transferred, closedBook, applied, storeAfter, sumsAfter, handledAfter, Entry}
-use Rattle.book.specs.Site.{Sound, storedTo, content}
+use Rattle.book.specs.Posting.{withPost, afterReceipt, afterIssue, afterForming, afterTransfer, afterClose, applied, storeAfter, sumsAfter, handledAfter, Entry}
+use Rattle.book.specs.Site.{Sound, storedTo, inBook}
 use Rattle.book.specs.declared.site.Book.{Book}
 use Rattle.book.proofs.Sums.{sum-point}
 use Rattle.book.proofs.ledger.Laws.{total-set, total-other, cell-le, length-moved, total-moved, length-settled, total-settled, length-raised, handled-raised, total-raised}
@@ -39,24 +39,24 @@ pub record Applies (b : Book) (p : Post) (n : ℕ) : Type 0 where
 -- ---- what applies, by kind
 
 module _ (b : Book) (p : Post) (n : ℕ) where
-  pub applied-receipt : p .kind ≤ 2 → applied b p n ≡ received b (p .material) (p .quantity)
+  pub applied-receipt : p .kind ≤ 2 → applied b p n ≡ afterReceipt b (p .material) (p .quantity)
   unfolding applied
   applied-receipt h = rw (le-leb (p .kind) 2 h)
 
-  pub applied-issue : p .kind ≡ 3 → applied b p n ≡ issued b (p .material) (p .stage) (p .quantity)
+  pub applied-issue : p .kind ≡ 3 → applied b p n ≡ afterIssue b (p .material) (p .stage) (p .quantity)
   unfolding applied
   applied-issue h = rw (lt-leb (p .kind) 2 (omega arith), eq-eqb (p .kind) 3 h)
 
-  pub applied-forming : p .kind ≡ 4 → applied b p n ≡ formed b (p .stage) (p .substance) n
+  pub applied-forming : p .kind ≡ 4 → applied b p n ≡ afterForming b (p .stage) (p .substance) n
   unfolding applied
   applied-forming h = rw (lt-leb (p .kind) 2 (omega arith), ne-eqb (p .kind) 3 (λ e. omega arith), eq-eqb (p .kind) 4 h)
 
-  pub applied-transfer : 5 ≤ p .kind → p .kind ≤ 12 → applied b p n ≡ transferred b (accountOf (p .kind)) (p .stage) (p .substance) n
+  pub applied-transfer : 5 ≤ p .kind → p .kind ≤ 12 → applied b p n ≡ afterTransfer b (accountOf (p .kind)) (p .stage) (p .substance) n
   unfolding applied
   applied-transfer h g =
       rw (lt-leb (p .kind) 2 (omega arith), ne-eqb (p .kind) 3 (λ e. omega arith), ne-eqb (p .kind) 4 (λ e. omega arith), le-leb (p .kind) 12 g)
 
-  pub applied-close : 12 < p .kind → applied b p n ≡ closedBook b
+  pub applied-close : 12 < p .kind → applied b p n ≡ afterClose b
   unfolding applied
   applied-close h =
       rw (lt-leb (p .kind) 2 (omega arith), ne-eqb (p .kind) 3 (λ e. omega arith), ne-eqb (p .kind) 4 (λ e. omega arith), lt-leb (p .kind) 12 h)
@@ -202,7 +202,7 @@ pub record Step (b : Book) (p : Post) (c : Book) : Type 0 where
   pub same-setup : c .setup ≡ b .setup
   pub same-blocks : c .blocks ≡ b .blocks
   pub one-more : c .posts ≡ b .posts + 1
-  pub entered : (s : ℕ) → s < 8 → content c s ≡ content b s + enters (b .setup .counted) s p
+  pub entered : (s : ℕ) → s < 8 → inBook c s ≡ inBook b s + enters (b .setup .counted) s p
   pub handled : (s : ℕ) → s < 8 → getD (c .handled) s 0 ≡ getD (b .handled) s 0 + handles (b .setup .counted) s p
 
 -- the lists that a post leaves, by what it brings in and what it has handled
@@ -212,7 +212,7 @@ record Leaves (b : Book) (p : Post) (store sums handled : List ℕ) : Type 0 whe
   handled-long : length handled ≡ 8
   totals : (s : ℕ) → s < 8 → total sums s ≡ total (b .sums) s + handles (b .setup .counted) s p
   counts : (s : ℕ) → s < 8 → getD handled s 0 ≡ getD (b .handled) s 0 + handles (b .setup .counted) s p
-  contents : (s : ℕ) → s < 8 → total sums s + storedTo store (b .setup .counted) s 12 ≡ content b s + enters (b .setup .counted) s p
+  contents : (s : ℕ) → s < 8 → total sums s + storedTo store (b .setup .counted) s 12 ≡ inBook b s + enters (b .setup .counted) s p
   few : (s : ℕ) → s < 8 → enters (b .setup .counted) s p ≤ 2 * 10 ^ 15
   stores : (m : ℕ) → m < 12 → getD store m 0 ≤ 2 * 10 ^ 9 * (b .posts + 1)
 
@@ -250,7 +250,7 @@ module _ (b : Book) (p : Post) (h : Sound b) (turn : mayPost (b .setup .outline)
       let long = h .store-long in
       bounded-set (b .store) m v (2 * 10 ^ 9 * (b .posts + 1)) (omega arith) (λ i hi. stores-same i (omega arith)) hv j (omega arith)
 
-  step-receive : 1 ≤ p .kind → p .kind ≤ 2 → p .material < 12 → p .quantity ≤ 2000000000 → b .posts < 4000 → Step b p (received b (p .material) (p .quantity))
+  step-receive : 1 ≤ p .kind → p .kind ≤ 2 → p .material < 12 → p .quantity ≤ 2000000000 → b .posts < 4000 → Step b p (afterReceipt b (p .material) (p .quantity))
   step-receive low high hm hg few =
       let m = p .material in
       let g = p .quantity in
@@ -269,7 +269,7 @@ module _ (b : Book) (p : Post) (h : Sound b) (turn : mayPost (b .setup .outline)
       })
       (λ e. few)
 
-  step-issue : p .kind ≡ 3 → p .material < 12 → p .stage < 8 → p .quantity ≤ getD (b .store) (p .material) 0 → b .posts < 4000 → Step b p (issued b (p .material) (p .stage) (p .quantity))
+  step-issue : p .kind ≡ 3 → p .material < 12 → p .stage < 8 → p .quantity ≤ getD (b .store) (p .material) 0 → b .posts < 4000 → Step b p (afterIssue b (p .material) (p .stage) (p .quantity))
   step-issue kind hm hst have few =
       let m = p .material in
       let g = p .quantity in
@@ -289,7 +289,7 @@ module _ (b : Book) (p : Post) (h : Sound b) (turn : mayPost (b .setup .outline)
       })
       (λ e. few)
 
-  step-form : (n : ℕ) → p .kind ≡ 4 → n ≡ p .quantity → n ≤ 2000000000000000 → p .stage < 8 → p .substance < 8 → b .posts < 4000 → Step b p (formed b (p .stage) (p .substance) n)
+  step-form : (n : ℕ) → p .kind ≡ 4 → n ≡ p .quantity → n ≤ 2000000000000000 → p .stage < 8 → p .substance < 8 → b .posts < 4000 → Step b p (afterForming b (p .stage) (p .substance) n)
   step-form n kind same hn hst ht few =
       let t = p .substance in
       let counted = b .setup .counted in

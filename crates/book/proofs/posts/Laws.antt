@@ -21,7 +21,7 @@ use Rattle.book.specs.Answer.{outcome}
 use Rattle.book.specs.Entered.{enters, handles}
 use Rattle.book.specs.Posting.{postOn}
 use Rattle.book.specs.Posts.{postIn, takenTo, numbered, runOn, ownChecks, postsOn}
-use Rattle.book.specs.Site.{Sound, content}
+use Rattle.book.specs.Site.{Sound, inBook}
 use Rattle.book.specs.declared.answer.Answered.{Answered}
 use Rattle.book.specs.declared.site.Book.{Book}
 use Rattle.book.proofs.posting.Checks.{passed, post-was-taken}
@@ -65,7 +65,7 @@ pub record Many (b : Book) (posts : ℕ → List ℕ) (n : ℕ) (c : Book) : Typ
   pub same-setup : c .setup ≡ b .setup
   pub same-blocks : c .blocks ≡ b .blocks
   pub more : c .posts ≡ b .posts + n
-  pub entered : (s : ℕ) → s < 8 → content c s ≡ content b s + sumTo n (λ i. enters (b .setup .counted) s (postAt (posts i)))
+  pub entered : (s : ℕ) → s < 8 → inBook c s ≡ inBook b s + sumTo n (λ i. enters (b .setup .counted) s (postAt (posts i)))
   pub handled : (s : ℕ) → s < 8 → getD (c .handled) s 0 ≡ getD (b .handled) s 0 + sumTo n (λ i. handles (b .setup .counted) s (postAt (posts i)))
 
 module _ (b : Book) (posts : ℕ → List ℕ) (h : Sound b) where

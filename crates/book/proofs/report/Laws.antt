@@ -21,7 +21,7 @@ use Rattle.layout.specs.declared.setup.Setup.{Setup}
 use Rattle.layout.proofs.Each.{sum-again}
 use Rattle.book.specs.Ledger.{cell, total}
 use Rattle.book.specs.Report.{atOne, atTwo, ratesOf, cellsOf, lineFrom, lineFor, stageLine, lineTo, sixOf, weigh, mapHeadings, filingOf, dueIn, reportAt, reportOf, weighCells, addLines}
-use Rattle.book.specs.Site.{stored, content, Rated, Sound}
+use Rattle.book.specs.Site.{stored, inBook, Rated, Sound}
 use Rattle.book.specs.declared.report.Cells.{Cells}
 use Rattle.book.specs.declared.report.Headings.{Headings}
 use Rattle.book.specs.declared.report.Line.{Line}
@@ -140,7 +140,7 @@ module _ (b : Book) (h : Sound b) (s : ℕ) (hs : s < 8) where
   pub report-handled : weigh (reportAt b s .line) ≡ reportAt b s .handled
   report-handled = line-total (b .sums) (b .setup) s (h .setup .rated) ∙ sym (h .weighed s hs)
 
-  pub report-entered : reportAt b s .store + weigh (reportAt b s .line) ≡ content b s
+  pub report-entered : reportAt b s .store + weigh (reportAt b s .line) ≡ inBook b s
   report-entered = let e = line-total (b .sums) (b .setup) s (h .setup .rated) in both (reportAt b s .store) (weigh (reportAt b s .line)) (total (b .sums) s) e
     where
       both : (x y t : ℕ) → y ≡ t → x + y ≡ t + x

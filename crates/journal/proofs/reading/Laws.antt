@@ -28,7 +28,7 @@ use Rattle.book.proofs.stage.Taken.{described-taken}
 use Rattle.book.proofs.site.Laws.{sound-fresh}
 use Rattle.journal.specs.Block.{countOf, bodyOf, blockOn}
 use Rattle.journal.specs.Demand.{block}
-use Rattle.journal.specs.Reading.{partsOf, onward, readAll, linesTo, returnText, outcomeText, filingOf, started, afterBlock, fedWhile, fed, fedAll, textWhile, textOf}
+use Rattle.journal.specs.Reading.{partsIn, onward, readAll, linesTo, returnText, outcomeText, printedOf, started, afterBlock, fedWhile, fed, fedAll, textWhile, textOf}
 use Rattle.journal.specs.Text.{title, lineText, refusedText}
 use Rattle.journal.specs.Writing.{Room, Puts, Tries}
 use Rattle.journal.specs.declared.text.Written.the-variants.{At, NoRoom}
@@ -85,8 +85,8 @@ fed-text b (part ∷ parts) h = go (blockOn b part) refl (λ c. fed-text c parts
     go (declined n) e rest = ap textOf (stays-all b (record { number = n }) parts)
 
 -- a journal fed part by part prints what its bytes say
-pub filing-is : (s : List ℕ) → textOf (fedAll started (partsOf s)) ≡ filingOf s
-filing-is s = fed-text freshBook (partsOf s) sound-fresh
+pub filing-is : (s : List ℕ) → textOf (fedAll started (partsIn s)) ≡ printedOf s
+filing-is s = fed-text freshBook (partsIn s) sound-fresh
 
 -- ---- printing
 

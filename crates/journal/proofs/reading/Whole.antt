@@ -15,7 +15,7 @@ use Rattle.book.specs.Site.{Sound, freshBook}
 use Rattle.book.specs.declared.answer.Answered.{Answered}
 use Rattle.book.specs.declared.site.Book.{Book}
 use Rattle.journal.specs.Block.{blockOn}
-use Rattle.journal.specs.Reading.{partsTo, partsOf, started, fed, fedAll}
+use Rattle.journal.specs.Reading.{partsTo, partsIn, started, fed, fedAll}
 use Rattle.journal.specs.declared.reading.Reading.{Reading}
 use Rattle.journal.specs.declared.reading.Stopped.the-variants.{No, By}
 use Rattle.journal.proofs.reading.Laws.{took, stopped-by, stays-all}
@@ -45,7 +45,7 @@ enough (suc n) (suc m) s h g = go (ℕ-discrete (length s) 0) (enough n m (drop 
         ∙ sym (parts-next m s d)
 
 -- the first part, and those of the rest
-parts-first : (s : List ℕ) → 0 < length s → partsOf s ≡ take 512 s ∷ partsOf (drop 512 s)
+parts-first : (s : List ℕ) → 0 < length s → partsIn s ≡ take 512 s ∷ partsIn (drop 512 s)
 parts-first s h =
     enough (length s) (suc (length s)) s (omega arith) (omega arith)
     ∙ parts-next (length s) s (λ e. omega arith)
@@ -70,11 +70,11 @@ feed-none state = refl
 -- the parts before a place are fed, and none was declined
 pub record Upto (s : List ℕ) (b : Book) (at : ℕ) : Type 0 where
   pub inside : at ≤ length s
-  pub so-far : fedAll (going b) (partsOf (drop at s)) ≡ fedAll started (partsOf s)
+  pub so-far : fedAll (going b) (partsIn (drop at s)) ≡ fedAll started (partsIn s)
   pub sound : Sound b
 
 pub upto-none : (s : List ℕ) (b : Book) → b ≡ freshBook → Sound b → Upto s b 0
-upto-none s b e h = record { inside = omega arith; so-far = ap (λ (x : Book). fedAll (going x) (partsOf s)) e; sound = h }
+upto-none s b e h = record { inside = omega arith; so-far = ap (λ (x : Book). fedAll (going x) (partsIn s)) e; sound = h }
 
 -- a part that is read: 512 bytes, or what is left
 module _ (s : List ℕ) (at end : ℕ) (h : at < length s) (e : end ≡ min (at + 512) (length s)) where
@@ -102,12 +102,12 @@ module _ (s : List ℕ) (at end : ℕ) (h : at < length s) (e : end ≡ min (at 
   end-inside = ends (decLe (at + 512) (length s)) .0
 
   -- the state after it, and then the rest
-  fed-next : (b : Book) (next : Reading) → Upto s b at → next ≡ fed (going b) (take (end - at) (drop at s)) → fedAll next (partsOf (drop end s)) ≡ fedAll started (partsOf s)
+  fed-next : (b : Book) (next : Reading) → Upto s b at → next ≡ fed (going b) (take (end - at) (drop at s)) → fedAll next (partsIn (drop end s)) ≡ fedAll started (partsIn s)
   fed-next b next u q =
       let z = ends (decLe (at + 512) (length s)) in
-      ap (λ (x : Reading). fedAll x (partsOf (drop end s))) (q ∙ ap (fed (going b)) (z .1))
-      ∙ ap (λ (x : List ℕ). fedAll (fed (going b) (take 512 (drop at s))) (partsOf x)) (z .2)
-      ∙ sym (feed-first (going b) (take 512 (drop at s)) (partsOf (drop 512 (drop at s))))
+      ap (λ (x : Reading). fedAll x (partsIn (drop end s))) (q ∙ ap (fed (going b)) (z .1))
+      ∙ ap (λ (x : List ℕ). fedAll (fed (going b) (take 512 (drop at s))) (partsIn x)) (z .2)
+      ∙ sym (feed-first (going b) (take 512 (drop at s)) (partsIn (drop 512 (drop at s))))
       ∙ ap (fedAll (going b)) (sym (parts-first (drop at s) (omega (arith, length-drop at s))))
       ∙ u .so-far
 
@@ -121,13 +121,13 @@ module _ (s : List ℕ) (at end : ℕ) (h : at < length s) (e : end ≡ min (at 
       }
 
   -- a part that is declined is the last
-  pub upto-stop : (b : Book) (a : Answered) (d : Decline) → Upto s b at → a ≡ outcome b (blockOn b (take (end - at) (drop at s))) → a .verdict ≡ Declined d → stoppedBy (a .book) d ≡ fedAll started (partsOf s)
+  pub upto-stop : (b : Book) (a : Answered) (d : Decline) → Upto s b at → a ≡ outcome b (blockOn b (take (end - at) (drop at s))) → a .verdict ≡ Declined d → stoppedBy (a .book) d ≡ fedAll started (partsIn s)
   upto-stop b a d u q v =
-      sym (stays-all (a .book) d (partsOf (drop end s)))
+      sym (stays-all (a .book) d (partsIn (drop end s)))
       ∙ fed-next b (stoppedBy (a .book) d) u (stopped-by (going b) (take (end - at) (drop at s)) a refl q d v)
 
 -- all parts are fed
-pub upto-all : (s : List ℕ) (b : Book) (at : ℕ) → Upto s b at → length s ≤ at → going b ≡ fedAll started (partsOf s)
+pub upto-all : (s : List ℕ) (b : Book) (at : ℕ) → Upto s b at → length s ≤ at → going b ≡ fedAll started (partsIn s)
 upto-all s b at u h =
     sym (feed-none (going b))
     ∙ ap (fedAll (going b)) (sym (parts-none (length (drop at s)) (drop at s) (omega (arith, length-drop at s))))

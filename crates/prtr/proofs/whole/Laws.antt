@@ -6,7 +6,7 @@ use Prim.Native.Nat.{ℕ, _+_, _-_}
 use native.Mathlib.Omega.{arith}
 use lib.Dec.{leb}
 use lib.ListN.{length}
-use Rattle.journal.specs.Reading.{partsOf, filingOf, started, fedAll, textOf}
+use Rattle.journal.specs.Reading.{partsIn, printedOf, started, fedAll, textOf}
 use Rattle.journal.specs.Writing.{triedAnswer, Tries}
 use Rattle.journal.specs.declared.reading.Reading.{Reading}
 use Rattle.journal.specs.declared.text.Written.{Written}
@@ -35,5 +35,5 @@ no-length l text e = go (leb 1336 (length l)) e
     go false q = refl
 
 -- a journal that is read whole prints what its bytes say
-pub prints : (s l m : List ℕ) (state : Reading) (w : Written) → state ≡ fedAll started (partsOf s) → Tries 1336 l 0 (textOf state) m w → Tries 1336 l 0 (filingOf s) m w
+pub prints : (s l m : List ℕ) (state : Reading) (w : Written) → state ≡ fedAll started (partsIn s) → Tries 1336 l 0 (textOf state) m w → Tries 1336 l 0 (printedOf s) m w
 prints s l m state w e t = subst (λ (x : List ℕ). Tries 1336 l 0 x m w) (ap textOf e ∙ filing-is s) t

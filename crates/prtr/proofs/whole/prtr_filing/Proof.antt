@@ -1,6 +1,6 @@
 use mathlib.Core.Path.{sym, _∙_}
 use denote.Ref.{now}
-use Rattle.journal.specs.Reading.{filingOf}
+use Rattle.journal.specs.Reading.{printedOf}
 use Rattle.prtr.proofs.whole.Laws.{prints, at-length, no-length}
 use borrow.Author.Needs.{needs}
 use Rattle.prtr.proofs.whole.prtr_filing.Statement.{statement}
@@ -26,7 +26,7 @@ returns c =
     let a = c .before .before .before .before .before .before .before .before .before .before .args in
     let p = c .before .before .before .before .before .print in
     let t = prints (now (a .journal)) (now (a .out)) _ (c .before .before .before .before .before .before .before .read-whole .result) (p .result) (c .before .before .before .before .before .before .before .read-whole .ensures .0) (p .ensures) in
-    (at-length (now (a .out)) (filingOf (now (a .journal))) (c .before .n .given .0 .0) (sym (c .before .n .given .1) ∙ t .answer), t .text-in)
+    (at-length (now (a .out)) (printedOf (now (a .journal))) (c .before .n .given .0 .0) (sym (c .before .n .given .1) ∙ t .answer), t .text-in)
 
 same-length-2 : tie.Need-same-length-2
 same-length-2 c = search needs
@@ -36,7 +36,7 @@ returns-2 c =
     let a = c .before .before .before .before .before .before .before .before .before .args in
     let p = c .before .before .before .before .print in
     let t = prints (now (a .journal)) (now (a .out)) _ (c .before .before .before .before .before .before .read-whole .result) (p .result) (c .before .before .before .before .before .before .read-whole .ensures .0) (p .ensures) in
-    (no-length (now (a .out)) (filingOf (now (a .journal))) (sym (c .enum-told .given .1) ∙ t .answer), t .text-in)
+    (no-length (now (a .out)) (printedOf (now (a .journal))) (sym (c .enum-told .given .1) ∙ t .answer), t .text-in)
 
 pub prtr-filing-spec : {M : Type 1} → statement M
 prtr-filing-spec =
