@@ -87,7 +87,7 @@ fn weigh(kg: f64) -> Loss
 }
 
 // The loss of a form in micrograms, over the row that was found for its substance.
-fn loss_of(form: LossForm, found: Found) -> Loss
+pub fn loss_of(form: LossForm, found: Found) -> Loss
     ensures { λ r. ⌜ answer r ≡ lossOf form (coefficients.answer found) ⌝ }
 {
     match loss_kg(form, found) {
@@ -106,8 +106,8 @@ fn row_for(form: LossForm, number: u16) -> Found
     coefficient::row_of(number)
 }
 
-// The loss of a form that was read, by the management number of its substance.
-pub fn loss_by(form: LossForm, number: u16) -> Loss
+// The loss of a form, by the management number of its substance.
+fn loss_by(form: LossForm, number: u16) -> Loss
     ensures { λ r. ⌜ answer r ≡ lossOf form (coefficients.rowOf number) ⌝ }
 {
     loss_of(form, row_for(form, number))

@@ -3,6 +3,7 @@ ghost use mathlib.Core.Path.{_≡_};
 ghost use Prim.Native.Nat.{_*_, _^_, _<_};
 ghost use Rattle.amounts.specs.Loss as losses;
 ghost use Rattle.book.specs.Amount.{lossOver, amountWith};
+use amounts::coefficient;
 use amounts::form;
 use amounts::form::Inputs;
 use amounts::loss;
@@ -18,7 +19,7 @@ pub(crate) fn loss_for(numbers: &[u16; 8], p: Post, x: Inputs) -> Loss
         return Loss::Micrograms(0);
     }
     let number = numbers[p.substance as usize];
-    loss::loss_by(form::form_at(p.material, x), number)
+    loss::loss_of(form::form_at(p.material, x), coefficient::row_of(number))
 }
 
 // The micrograms that a post brings or moves, its loss being known.

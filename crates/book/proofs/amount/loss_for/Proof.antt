@@ -18,13 +18,16 @@ element-copy-out-number c = search needs
 form-at-requires : tie.Need-form-at-requires
 form-at-requires c κs = search needs
 
-loss-by-requires : tie.Need-loss-by-requires
-loss-by-requires c κs = search needs
+row-of-requires : tie.Need-row-of-requires
+row-of-requires c κs = search needs
+
+loss-of-requires : tie.Need-loss-of-requires
+loss-of-requires c κs = search needs
 
 returns-2 : tie.Need-returns-2
 returns-2 c =
-    let k = c .before .before .before .before in
-    rw (eq-eqb (k .before .before .args .p .kind) 12 (k .if1 .left), ← c .before .form-at .ensures) (c .loss-by .ensures)
+    let k = c .before .before .before .before .before in
+    rw (eq-eqb (k .before .before .args .p .kind) 12 (k .if1 .left), ← c .before .before .form-at .ensures, ← c .before .row-of .ensures) (c .loss-of .ensures)
 
 pub loss-for-spec : {M : Type 1} → statement M
 loss-for-spec =
@@ -35,5 +38,6 @@ loss-for-spec =
     mul-number
     element-copy-out-number
     form-at-requires
-    loss-by-requires
+    row-of-requires
+    loss-of-requires
     returns-2)
