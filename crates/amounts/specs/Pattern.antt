@@ -6,8 +6,8 @@ use Rattle.amounts.specs.Binary64.{finite}
 use Rattle.amounts.specs.Decline as decline
 use Rattle.amounts.specs.Decline.{Answer, taken, declined, check, checked}
 use Rattle.amounts.specs.declared.pattern.Range.{Range}
-use Rattle.amounts.specs.declared.pattern.Reading.{Reading}
-use Rattle.amounts.specs.declared.pattern.Reading.the-variants.{Value, Declined}
+use Rattle.amounts.specs.declared.pattern.FloatRead.{FloatRead}
+use Rattle.amounts.specs.declared.pattern.FloatRead.the-variants.{Value, Declined}
 
 -- finite, and not outside: the ends belong to the range, and either sign of zero is 0
 abbrev pub inRange : Range → Float → Bool
@@ -18,6 +18,6 @@ unfolding checked
 readingOf range x = checked (check (inRange range x) decline.range ∷ []) x
 
 -- what each case of the code's answer stands for
-abbrev pub answer : Reading → Answer Float
+abbrev pub answer : FloatRead → Answer Float
 answer (Value x) = taken x
 answer (Declined d) = declined (d .number)

@@ -5,8 +5,8 @@ ghost use Rattle.amounts.specs.Form.{rangesOf, formAt, inputsOf, formOf,
 use crate::decline;
 use crate::decline::Decline;
 use crate::pattern;
+use crate::pattern::FloatRead;
 use crate::pattern::Range;
-use crate::pattern::Reading;
 
 pub enum LossForm {
     FloatingRoof {
@@ -173,16 +173,16 @@ pub fn form_at(form: u8, x: Inputs) -> LossForm
 pub fn read_inputs(ranges: Ranges, w: u64, u: u64, p: u64, q: u64) -> InputsRead
     ensures { λ r. ⌜ inputsAnswer r ≡ inputsOf ranges (valueOf w) (valueOf u) (valueOf p) (valueOf q) ⌝ }
 {
-    let Reading::Value(wx) = pattern::read_float(w, ranges.w) else {
+    let FloatRead::Value(wx) = pattern::read_float(w, ranges.w) else {
         return InputsRead::Declined(decline::RANGE);
     };
-    let Reading::Value(ux) = pattern::read_float(u, ranges.u) else {
+    let FloatRead::Value(ux) = pattern::read_float(u, ranges.u) else {
         return InputsRead::Declined(decline::RANGE);
     };
-    let Reading::Value(px) = pattern::read_float(p, ranges.p) else {
+    let FloatRead::Value(px) = pattern::read_float(p, ranges.p) else {
         return InputsRead::Declined(decline::RANGE);
     };
-    let Reading::Value(qx) = pattern::read_float(q, ranges.q) else {
+    let FloatRead::Value(qx) = pattern::read_float(q, ranges.q) else {
         return InputsRead::Declined(decline::RANGE);
     };
     InputsRead::Values(Inputs {

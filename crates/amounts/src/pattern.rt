@@ -11,24 +11,24 @@ pub struct Range {
     pub high: f64,
 }
 
-pub enum Reading {
+pub enum FloatRead {
     Value(f64),
     Declined(Decline),
 }
 
 // The value of a pattern that is finite and in the range.
-pub fn read_float(bits: u64, range: Range) -> Reading
+pub fn read_float(bits: u64, range: Range) -> FloatRead
     ensures { λ r. ⌜ answer r ≡ readingOf range (valueOf bits) ⌝ }
 {
     // Without its sign, a pattern from 0x7ff0_0000_0000_0000 on is an infinity's or a NaN's.
     if bits % 0x8000_0000_0000_0000 >= 0x7ff0_0000_0000_0000 {
-        return Reading::Declined(decline::RANGE);
+        return FloatRead::Declined(decline::RANGE);
     }
     let x = f64::from_bits(bits);
     if range.low <= x {
         if x <= range.high {
-            return Reading::Value(x);
+            return FloatRead::Value(x);
         }
     }
-    Reading::Declined(decline::RANGE)
+    FloatRead::Declined(decline::RANGE)
 }

@@ -12,9 +12,9 @@ use Rattle.layout.specs.declared.outline.Outline.{Outline}
 use Rattle.layout.specs.declared.post.Post.{Post}
 use Rattle.book.specs.Amount.{kgFor, lossFor, amountOf}
 use Rattle.book.specs.Ledger.{held, accountOf, cellOf, cell, moved, raised, brings, settled}
-use Rattle.book.specs.declared.posting.Reading.{Reading}
-use Rattle.book.specs.declared.posting.ReadingAnswer.{ReadingAnswer}
-use Rattle.book.specs.declared.posting.ReadingAnswer.the-variants as read
+use Rattle.book.specs.declared.posting.Measured.{Measured}
+use Rattle.book.specs.declared.posting.MeasuredRead.{MeasuredRead}
+use Rattle.book.specs.declared.posting.MeasuredRead.the-variants as read
 use Rattle.book.specs.declared.site.Book.{Book}
 
 -- ---- what an accepted post does
@@ -129,26 +129,26 @@ postOn b s =
 
 -- ---- a post as read: 4 to 9 passed
 
-unfoldable pub readOf : Outline → List ℕ → Bool → List ℕ → Answer Reading
+unfoldable pub readOf : Outline → List ℕ → Bool → List ℕ → Answer Measured
 unfolding checked
 readOf o numbers closed s =
     checked (readChecks o numbers closed s) (record { post = postAt s; amount = amountOf numbers (postAt s) })
 
 -- what each case of the code's answer stands for
-abbrev pub readAnswer : ReadingAnswer → Answer Reading
+abbrev pub readAnswer : MeasuredRead → Answer Measured
 readAnswer (read.Read r) = taken r
 readAnswer (read.Declined d) = declined (d .number)
 
 -- ---- a post as admitted: 4 to 11 passed
 
-unfoldable pub admitted : Outline → List ℕ → Bool → ℕ → List ℕ → List ℕ → List ℕ → Answer Reading
+unfoldable pub admitted : Outline → List ℕ → Bool → ℕ → List ℕ → List ℕ → List ℕ → Answer Measured
 unfolding checked readOf
 admitted o numbers closed posts store sums s = onTaken (readOf o numbers closed s) (λ r. checked (bookChecks posts store sums (r .post) (r .amount)) r)
 
 -- ---- what a list has room for
 
 -- a post before the close, within its limits, beside contents as counted
-pub record Entry (counted : List ℕ) (p : Post) (n : ℕ) : Type 0 where
+pub record Admissible (counted : List ℕ) (p : Post) (n : ℕ) : Type 0 where
   pub kind : p .kind ≤ 12
   pub material : p .kind ≤ 3 → p .material < 12
   pub stage : p .stage < 8

@@ -4,7 +4,7 @@ ghost use Prim.Native.Nat.{ℕ, _*_, _^_, _≤_, _<_};
 ghost use lib.ListN.{length, getD};
 ghost use Rattle.book.specs.Answer.{outcome};
 ghost use Rattle.book.specs.Ledger.{held, cell, total};
-ghost use Rattle.book.specs.Posting.{storeAfter, sumsAfter, handledAfter, hasRoom, isThere, postOn, readOf, readAnswer, admitted, Entry};
+ghost use Rattle.book.specs.Posting.{storeAfter, sumsAfter, handledAfter, hasRoom, isThere, postOn, readOf, readAnswer, admitted, Admissible};
 ghost use Rattle.book.specs.Site.{Sound};
 use crate::amount;
 use crate::answer::Answered;
@@ -23,38 +23,38 @@ use layout::post::Post;
 use layout::post::PostRead;
 
 // A post, and the micrograms that it brings or moves.
-pub struct Reading {
+pub struct Measured {
     pub post: Post,
     pub amount: u64,
 }
 
-pub enum ReadingAnswer {
-    Read(Reading),
+pub enum MeasuredRead {
+    Read(Measured),
     Declined(Decline),
 }
 
-fn read(o: Outline, numbers: &[u16; 8], closed: bool, s: &[u8]) -> ReadingAnswer
+fn read(o: Outline, numbers: &[u16; 8], closed: bool, s: &[u8]) -> MeasuredRead
     requires { ⌜ o .substances ≤ 8 ⌝ }
     ensures { λ r. ⌜ readAnswer r ≡ readOf o (now (numbers .entry)) closed (now (s .entry)) ⌝ }
 {
     if !outline::may_post(o) {
-        return ReadingAnswer::Declined(decline::TURN);
+        return MeasuredRead::Declined(decline::TURN);
     }
     if closed {
-        return ReadingAnswer::Declined(decline::CLOSED);
+        return MeasuredRead::Declined(decline::CLOSED);
     }
     let PostRead::Post(p) = post::read_post(o, s) else {
-        return ReadingAnswer::Declined(decline::LAYOUT);
+        return MeasuredRead::Declined(decline::LAYOUT);
     };
     let InputsRead::Values(x) = post::read_floats(p) else {
-        return ReadingAnswer::Declined(decline::RANGE);
+        return MeasuredRead::Declined(decline::RANGE);
     };
     match amount::loss_for(numbers, p, x) {
-        Loss::Micrograms(loss) => ReadingAnswer::Read(Reading {
+        Loss::Micrograms(loss) => MeasuredRead::Read(Measured {
             post: p,
             amount: amount::amount_with(p, loss),
         }),
-        Loss::Declined(d) => ReadingAnswer::Declined(d),
+        Loss::Declined(d) => MeasuredRead::Declined(d),
     }
 }
 
@@ -93,21 +93,21 @@ pub(crate) fn admit<'a>(
     store: &'a [u64; 12],
     sums: &'a [u64; 576],
     s: &[u8],
-) -> ReadingAnswer
+) -> MeasuredRead
     requires { ⌜ (o .substances ≤ 8) × (o .materials ≤ 12) × (o .stages ≤ 8) ⌝ }
     ensures { λ r. ⌜ readAnswer r ≡ admitted o (now (numbers .entry)) closed posts (now (store .entry)) (now (sums .entry)) (now (s .entry)) ⌝ }
 {
     match read(o, numbers, closed, s) {
-        ReadingAnswer::Declined(d) => ReadingAnswer::Declined(d),
-        ReadingAnswer::Read(r) => {
+        MeasuredRead::Declined(d) => MeasuredRead::Declined(d),
+        MeasuredRead::Read(r) => {
             let p = r.post;
             if !has_room(posts, p) {
-                return ReadingAnswer::Declined(decline::FULL);
+                return MeasuredRead::Declined(decline::FULL);
             }
             if !is_there(store, sums, p, r.amount) {
-                return ReadingAnswer::Declined(decline::SHORT);
+                return MeasuredRead::Declined(decline::SHORT);
             }
-            ReadingAnswer::Read(r)
+            MeasuredRead::Read(r)
         }
     }
 }
@@ -131,7 +131,7 @@ pub(crate) fn into_store(store: &mut [u64; 12], p: Post)
 
 // To the ledger's sums: what is issued or formed comes to a holding, and what leaves one goes to its account.
 pub(crate) fn into_sums(sums: &mut [u64; 576], counted: &[u32; 96], p: Post, amount: u64)
-    requires { ⌜ Entry (now counted) p amount ⌝ }
+    requires { ⌜ Admissible (now counted) p amount ⌝ }
     requires { ⌜ length (now sums) ≡ 576 ⌝ }
     requires { ⌜ ((s : ℕ) → s < 8 → total (now sums) s ≤ 2 * 10 ^ 15 * 4000) ⌝ }
     requires { ⌜ (5 ≤ p .kind → amount ≤ cell (now sums) held (p .stage) (p .substance)) ⌝ }
@@ -156,7 +156,7 @@ pub(crate) fn into_sums(sums: &mut [u64; 576], counted: &[u32; 96], p: Post, amo
 
 // And to what was handled.
 pub(crate) fn into_handled(handled: &mut [u64; 8], counted: &[u32; 96], p: Post, amount: u64)
-    requires { ⌜ Entry (now counted) p amount ⌝ }
+    requires { ⌜ Admissible (now counted) p amount ⌝ }
     requires { ⌜ ((s : ℕ) → s < 8 → getD (now handled) s 0 ≤ 2 * 10 ^ 15 * 4000) ⌝ }
     ensures { λ r. ⌜ now (handled .exit) ≡ handledAfter (now (handled .entry)) (now (counted .entry)) p amount ⌝ }
 {

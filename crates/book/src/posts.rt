@@ -11,7 +11,7 @@ use crate::answer;
 use crate::answer::Answered;
 use crate::ledger;
 use crate::posting;
-use crate::posting::ReadingAnswer;
+use crate::posting::MeasuredRead;
 use crate::site::Book;
 use amounts::decline;
 use layout::bytes;
@@ -36,8 +36,8 @@ pub(crate) fn take_run(b: Book, s: &[u8], size: usize, n: usize, blocks: u32) ->
         let at = i * size;
         let part = &s[at..at + size];
         match posting::admit(o, &numbers, c.closed, c.posts, &c.store, &c.sums, part) {
-            ReadingAnswer::Declined(d) => return answer::declined(b, d),
-            ReadingAnswer::Read(r) => {
+            MeasuredRead::Declined(d) => return answer::declined(b, d),
+            MeasuredRead::Read(r) => {
                 let p = r.post;
                 c.posts = c.posts + 1;
                 i += 1;

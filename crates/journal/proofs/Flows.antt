@@ -11,13 +11,12 @@ use lib.ListN.{length, set}
 use lib.Seq.{getD-set-same, getD-set-other}
 use Rattle.layout.specs.Each.{sumTo}
 use Rattle.layout.specs.declared.post.Post.{Post}
-use Rattle.layout.proofs.Each.{sum-none, put-other}
+use Rattle.layout.proofs.Each.{sum-none, put-other, sum-point}
 use Rattle.book.specs.Amount.{amountOf}
 use Rattle.book.specs.Ledger.{held, accountOf, cellOf, cell, moved, raised, brings}
 use Rattle.book.specs.Posting.{afterReceipt, afterIssue, afterForming, afterTransfer, applied}
 use Rattle.book.specs.Site.{Sound}
 use Rattle.book.specs.declared.site.Book.{Book}
-use Rattle.book.proofs.Sums.{sum-point}
 use Rattle.book.proofs.ledger.Laws.{raised-at, own-place}
 use Rattle.book.proofs.posting.Laws.{Applies, applied-receipt, applied-issue, applied-forming, applied-transfer}
 use Rattle.journal.specs.Weighing.{issues, moves}

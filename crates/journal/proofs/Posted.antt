@@ -14,7 +14,7 @@ use Rattle.layout.specs.Each.{sumTo, listTo}
 use Rattle.layout.specs.Post.{postAt, isClose}
 use Rattle.layout.specs.declared.post.Post.{Post}
 use Rattle.layout.specs.declared.setup.Setup.{Setup}
-use Rattle.layout.proofs.Each.{sum-none}
+use Rattle.layout.proofs.Each.{sum-none, sum-same, sum-add}
 use Rattle.book.specs.Amount.{amountOf}
 use Rattle.book.specs.Ledger.{held, cell, closesTo}
 use Rattle.book.specs.Posting.{afterClose, applied, postOn}
@@ -22,7 +22,6 @@ use Rattle.book.specs.Posts.{takenTo}
 use Rattle.book.specs.Report.{ratesOf}
 use Rattle.book.specs.Site.{Sound}
 use Rattle.book.specs.declared.site.Book.{Book}
-use Rattle.book.proofs.Sums.{sum-same}
 use Rattle.book.proofs.posting.Checks.{post-was-taken}
 use Rattle.book.proofs.posting.Laws.{Applies, applied-receipt, applied-issue, applied-forming, applied-transfer, applied-close, cell-few}
 use Rattle.book.proofs.posts.Laws.{post-step}
@@ -42,12 +41,6 @@ sum-nil f = refl
 sum-last : (f : List ℕ → ℕ) (ps : List (List ℕ)) (x : List ℕ) → sumOver f (ps ++ (x ∷ [])) ≡ sumOver f ps + f x
 unfolding sumOver
 sum-last f ps x = omega (arith, sum-append f ps (x ∷ []))
-
--- sums are added term by term
-pub sum-add : (n : ℕ) (f g : ℕ → ℕ) → sumTo n (λ i. f i + g i) ≡ sumTo n f + sumTo n g
-unfolding sumTo
-sum-add zero f g = omega arith
-sum-add (suc n) f g = omega (arith, sum-add n f g)
 
 -- ---- the close among the posts
 

@@ -16,6 +16,7 @@ use Rattle.layout.specs.Setup.{numbersIn, classesIn, contentsIn, countedAll}
 use Rattle.layout.specs.declared.post.Post.{Post}
 use Rattle.layout.specs.declared.setup.Rates.{Rates}
 use Rattle.layout.specs.declared.setup.Setup.{Setup}
+use Rattle.layout.proofs.Each.{sum-same}
 use Rattle.book.specs.Entered.{forms, enters, handles}
 use Rattle.book.specs.Ledger.{held, gas, water, cell, closesTo}
 use Rattle.book.specs.Report.{ratesOf, cellsOf, lineFor, stageLine, lineTo, filingOf, reportAt, reportOf}
@@ -23,7 +24,6 @@ use Rattle.book.specs.Site.{freshBook}
 use Rattle.book.specs.declared.report.Line.{Line}
 use Rattle.book.specs.declared.report.Report.{Report}
 use Rattle.book.specs.declared.site.Book.{Book}
-use Rattle.book.proofs.Sums.{sum-same}
 use Rattle.journal.specs.Block.{bodyOf}
 use Rattle.journal.specs.Demand as demand
 use Rattle.journal.specs.Demand.{Call, run, accepted, postsOf, blocksOf, setUpBlock, substancesOf, countedIn, sumOver, Balanced}

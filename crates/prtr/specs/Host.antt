@@ -17,8 +17,8 @@ lent part before (taken a) = part a
 lent part before (declined n) = before
 
 -- 1 for yes and 0 for no
-abbrev pub yesNo : Bool → ℕ
-yesNo t = cond t 1 0
+abbrev pub oneOrZero : Bool → ℕ
+oneOrZero t = cond t 1 0
 
 -- the length of a text that is written where so many bytes are lent, and 0 where they are fewer
 unfoldable pub lengthIn : ℕ → List ℕ → List ℕ → ℕ

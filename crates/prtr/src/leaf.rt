@@ -6,7 +6,7 @@ ghost use Rattle.amounts.specs.Filed.{stepOf, filedOf};
 ghost use Rattle.amounts.specs.Loss.{vapourOf};
 ghost use Rattle.amounts.specs.Threshold.{dueOf};
 ghost use Rattle.amounts.specs.Treatment.{splitOf};
-ghost use Rattle.prtr.specs.Host.{numberOf, lent, yesNo};
+ghost use Rattle.prtr.specs.Host.{numberOf, lent, oneOrZero};
 use amounts::content;
 use amounts::content::Counted;
 use amounts::filed;
@@ -78,7 +78,7 @@ pub extern "C" fn prtr_figure(amount: u64) -> u64
 #[no_mangle]
 pub extern "C" fn prtr_due(class: u8, handled: u64, due: &mut u8) -> u8
     ensures { λ r. ⌜ r ≡ numberOf (dueOf class handled) ⌝ }
-    ensures { λ _. ⌜ now (due .exit) ≡ lent yesNo (now (due .entry)) (dueOf class handled) ⌝ }
+    ensures { λ _. ⌜ now (due .exit) ≡ lent oneOrZero (now (due .entry)) (dueOf class handled) ⌝ }
 {
     match threshold::is_due(class, handled) {
         Due::Yes => {

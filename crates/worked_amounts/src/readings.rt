@@ -1,7 +1,7 @@
 // A float read from its bits, in a range from 0 that has no end, and its whole part.
 use crate::line;
+use amounts::pattern::FloatRead;
 use amounts::pattern::Range;
-use amounts::pattern::Reading;
 
 fn whole(bits: u64) {
     line::pattern(bits);
@@ -12,8 +12,8 @@ fn whole(bits: u64) {
             high: 1.0 / 0.0,
         },
     ) {
-        Reading::Value(x) => line::last(amounts::whole::whole_part(x)),
-        Reading::Declined(d) => line::declined(d),
+        FloatRead::Value(x) => line::last(amounts::whole::whole_part(x)),
+        FloatRead::Declined(d) => line::declined(d),
     }
 }
 

@@ -11,8 +11,8 @@ use Rattle.amounts.specs.Binary64.{finite, valueOf}
 use Rattle.amounts.specs.Pattern.{inRange, readingOf, answer}
 use Rattle.amounts.specs.declared.decline.Decline.{Decline}
 use Rattle.amounts.specs.declared.pattern.Range.{Range}
-use Rattle.amounts.specs.declared.pattern.Reading.{Reading}
-use Rattle.amounts.specs.declared.pattern.Reading.the-variants.{Value, Declined}
+use Rattle.amounts.specs.declared.pattern.FloatRead.{FloatRead}
+use Rattle.amounts.specs.declared.pattern.FloatRead.the-variants.{Value, Declined}
 use Rattle.amounts.proofs.decline.Laws.{one-taken, one-declined}
 
 digits-finite : (d : ℕ) (s : Bool) (q k l : ℕ) → finite (odd d s q k l) ≡ true
@@ -50,10 +50,10 @@ module _ (b : ℕ) where
 
 module _ (range : Range) (x : Float) where
   -- the float is in the range and is the value read
-  pub read : (r : Reading) (y : Float) → answer r ≡ readingOf range x → r ≡ Value y → (inRange range x ≡ true) × (y ≡ x)
+  pub read : (r : FloatRead) (y : Float) → answer r ≡ readingOf range x → r ≡ Value y → (inRange range x ≡ true) × (y ≡ x)
   unfolding readingOf
   read r y e v = one-taken (inRange range x) 7 x y (sym (ap answer v) ∙ e)
 
-  pub refused : (r : Reading) (d : Decline) → answer r ≡ readingOf range x → r ≡ Declined d → inRange range x ≡ false
+  pub refused : (r : FloatRead) (d : Decline) → answer r ≡ readingOf range x → r ≡ Declined d → inRange range x ≡ false
   unfolding readingOf
   refused r d e v = one-declined (inRange range x) 7 x (d .number) (sym (ap answer v) ∙ e) .0

@@ -12,9 +12,8 @@ use lib.Seq.{getD-set-same, getD-set-other}
 use Rattle.layout.specs.Each.{sumTo, putTo}
 use Rattle.layout.specs.Setup.{noRates}
 use Rattle.layout.specs.declared.setup.Rates.{Rates}
-use Rattle.layout.proofs.Each.{put-again, length-put, put-other, put-at}
+use Rattle.layout.proofs.Each.{put-again, length-put, put-other, put-at, sum-same, sum-point, term-le}
 use Rattle.book.specs.Ledger.{held, water, gas, at, cellOf, cell, total, moved, raised, closesTo, settled}
-use Rattle.book.proofs.Sums.{sum-same, sum-point, term-le}
 
 -- ---- one write
 

@@ -18,7 +18,7 @@ use Rattle.book.specs.Amount.{lossFor, lossOver, floatsOf, amountWith, a
 use Rattle.book.specs.Ledger.{held, cell}
 use Rattle.book.specs.Posting.{applied, readChecks, hasRoom, isThere, bookChecks, postOn, readOf, admitted}
 use Rattle.book.specs.Site.{Sound}
-use Rattle.book.specs.declared.posting.Reading.{Reading}
+use Rattle.book.specs.declared.posting.Measured.{Measured}
 use Rattle.book.specs.declared.site.Book.{Book}
 use Rattle.book.proofs.amount.Laws.{loss-refused, loss-weighed, amount-small, amount-formed}
 use Rattle.book.proofs.posting.Laws.{Applies}
@@ -46,7 +46,7 @@ passed (check false n ∷ rows) a b e = let z : _≡_ {A = ℕ} 0 1 = cc in absu
 -- ---- 4 to 9
 
 module _ (o : Outline) (numbers : List ℕ) (closed : Bool) (s : List ℕ) where
-  pub was-read : (r : Reading) → readOf o numbers closed s ≡ taken r → AllPass (readChecks o numbers closed s) × (r ≡ record { post = postAt s; amount = amountOf numbers (postAt s) })
+  pub was-read : (r : Measured) → readOf o numbers closed s ≡ taken r → AllPass (readChecks o numbers closed s) × (r ≡ record { post = postAt s; amount = amountOf numbers (postAt s) })
   unfolding readOf
   was-read r e = passed (readChecks o numbers closed s) (record { post = postAt s; amount = amountOf numbers (postAt s) }) r e
 
@@ -88,22 +88,22 @@ module _ (o : Outline) (numbers : List ℕ) (closed : Bool) (s : List ℕ) where
 -- ---- 10 and 11
 
 module _ (b : Book) (s : List ℕ) where
-  abbrev reads : Answer Reading
+  abbrev reads : Answer Measured
   reads = readOf (b .setup .outline) (b .setup .numbers) (b .closed) s
 
-  abbrev asked : Reading
+  abbrev asked : Measured
   asked = record { post = postAt s; amount = amountOf (b .setup .numbers) (postAt s) }
 
-  abbrev room : Reading → Bool
+  abbrev room : Measured → Bool
   room r = hasRoom (b .posts) (r .post)
 
-  abbrev there : Reading → Bool
+  abbrev there : Measured → Bool
   there r = isThere (b .store) (b .sums) (r .post) (r .amount)
 
-  abbrev after : Reading → Book
+  abbrev after : Measured → Book
   after r = applied b (r .post) (r .amount)
 
-  abbrev rows : Reading → List Check
+  abbrev rows : Measured → List Check
   rows r = bookChecks (b .posts) (b .store) (b .sums) (r .post) (r .amount)
 
   post-is : postOn b s ≡ onTaken reads (λ _. checked (rows asked) (after asked))
@@ -115,8 +115,8 @@ module _ (b : Book) (s : List ℕ) where
   post-declined n e = post-is ∙ rw e
 
   -- what holds of the post asked holds of it as read
-  module _ (r : Reading) (e : reads ≡ taken r) where
-    as-read : (P : Reading → Type 0) → P asked → P r
+  module _ (r : Measured) (e : reads ≡ taken r) where
+    as-read : (P : Measured → Type 0) → P asked → P r
     as-read P h = subst P (sym (was-read (b .setup .outline) (b .setup .numbers) (b .closed) s r e .1)) h
 
     post-taken : room r ≡ true → there r ≡ true → postOn b s ≡ taken (after r)
@@ -140,7 +140,7 @@ on-room posts p h l = ltb-true posts 4000 (rw (ne-eqb (p .kind) 13 (λ e. absurd
 
 -- ---- what reading a post tells of its places
 
-module _ (o : Outline) (numbers : List ℕ) (closed : Bool) (s : List ℕ) (few : (o .substances ≤ 8) × (o .materials ≤ 12) × (o .stages ≤ 8)) (r : Reading) (e : readOf o numbers closed s ≡ taken r) where
+module _ (o : Outline) (numbers : List ℕ) (closed : Bool) (s : List ℕ) (few : (o .substances ≤ 8) × (o .materials ≤ 12) × (o .stages ≤ 8)) (r : Measured) (e : readOf o numbers closed s ≡ taken r) where
   passes : AllPass (readChecks o numbers closed s)
   passes = was-read o numbers closed s r e .0
 
@@ -155,7 +155,7 @@ module _ (o : Outline) (numbers : List ℕ) (closed : Bool) (s : List ℕ) (few 
   -- where a post that was read leaves a store or a holding, a book has the place
   pub in-place : (r .post .kind ≡ 3 → r .post .material < 12) × (r .post .stage < 8) × (r .post .substance < 8)
   in-place =
-      subst (λ (x : Reading). (x .post .kind ≡ 3 → x .post .material < 12) × (x .post .stage < 8) × (x .post .substance < 8))
+      subst (λ (x : Measured). (x .post .kind ≡ 3 → x .post .material < 12) × (x .post .stage < 8) × (x .post .substance < 8))
       (sym (was-read o numbers closed s r e .1))
       (λ k. placed .0 (omega arith), placed .1, placed .2)
 
@@ -163,7 +163,7 @@ module _ (b : Book) (s : List ℕ) (sound : Sound b) where
   few-of : (b .setup .outline .substances ≤ 8) × (b .setup .outline .materials ≤ 12) × (b .setup .outline .stages ≤ 8)
   few-of = (sound .setup .substances-few, sound .setup .materials-few, sound .setup .stages-few)
 
-  module _ (r : Reading) (e : reads b s ≡ taken r) where
+  module _ (r : Measured) (e : reads b s ≡ taken r) where
     applies-asked : room b s (asked b s) ≡ true → there b s (asked b s) ≡ true → Applies b (postAt s) (asked b s .amount)
     applies-asked f g =
         let u = b .setup in
@@ -200,14 +200,14 @@ module _ (b : Book) (s : List ℕ) (sound : Sound b) where
 -- ---- 4 to 11
 
 module _ (o : Outline) (numbers : List ℕ) (closed : Bool) (posts : ℕ) (store sums s : List ℕ) where
-  abbrev admits : Answer Reading
+  abbrev admits : Answer Measured
   admits = admitted o numbers closed posts store sums s
 
   pub unread : (n : ℕ) → readOf o numbers closed s ≡ declined n → declined n ≡ admits
   unfolding admitted
   unread n e = rw e
 
-  module _ (r : Reading) (e : readOf o numbers closed s ≡ taken r) where
+  module _ (r : Measured) (e : readOf o numbers closed s ≡ taken r) where
     pub no-room : hasRoom posts (r .post) ≡ false → declined 10 ≡ admits
     unfolding admitted
     no-room f = rw (e, f)
@@ -228,7 +228,7 @@ same-decline (check true m ∷ rows) a b n e = same-decline rows a b n e
 same-decline (check false m ∷ rows) a b n e = cc
 
 module _ (b : Book) (s : List ℕ) where
-  abbrev pub asks : Answer Reading
+  abbrev pub asks : Answer Measured
   asks = admitted (b .setup .outline) (b .setup .numbers) (b .closed) (b .posts) (b .store) (b .sums) s
 
   asks-is : asks ≡ onTaken (reads b s) (λ r. checked (rows b s r) r)
@@ -239,26 +239,26 @@ module _ (b : Book) (s : List ℕ) where
   pub not-admitted : (n : ℕ) → asks ≡ declined n → postOn b s ≡ declined n
   not-admitted n h = go (reads b s) refl (sym asks-is ∙ h)
     where
-      go : (x : Answer Reading) → reads b s ≡ x → onTaken x (λ r. checked (rows b s r) r) ≡ declined n → postOn b s ≡ declined n
+      go : (x : Answer Measured) → reads b s ≡ x → onTaken x (λ r. checked (rows b s r) r) ≡ declined n → postOn b s ≡ declined n
       go (declined m) e q = post-declined b s m e ∙ q'
         where
           q' : _≡_ {A = Answer Book} (declined m) (declined n)
           q' = cc
       go (taken r) e q =
           as-read b s r e (λ x. checked (rows b s x) x ≡ declined n → postOn b s ≡ declined n)
-          (λ w. post-is b s ∙ ap (λ (y : Answer Reading). onTaken y (λ _. checked (rows b s (asked b s)) (after b s (asked b s)))) e ∙ same-decline (rows b s (asked b s)) (asked b s) (after b s (asked b s)) n w)
+          (λ w. post-is b s ∙ ap (λ (y : Answer Measured). onTaken y (λ _. checked (rows b s (asked b s)) (after b s (asked b s)))) e ∙ same-decline (rows b s (asked b s)) (asked b s) (after b s (asked b s)) n w)
           q
 
   -- one that is admitted was read, and passed 10 and 11
-  as-admitted : (r : Reading) → asks ≡ taken r → (reads b s ≡ taken r) × (room b s r ≡ true) × (there b s r ≡ true)
+  as-admitted : (r : Measured) → asks ≡ taken r → (reads b s ≡ taken r) × (room b s r ≡ true) × (there b s r ≡ true)
   as-admitted r h =
       let z = was-taken (reads b s) (λ x. checked (rows b s x) x) r (sym asks-is ∙ h) in
       let y = passed (rows b s (z .0)) (z .0) r (z .2) in
-      subst (λ (x : Reading). (reads b s ≡ taken x) × (room b s x ≡ true) × (there b s x ≡ true)) (sym (y .1)) (z .1, y .0 .0, y .0 .1 .0)
+      subst (λ (x : Measured). (reads b s ≡ taken x) × (room b s x ≡ true) × (there b s x ≡ true)) (sym (y .1)) (z .1, y .0 .0, y .0 .1 .0)
 
   -- so that it is taken
-  pub was-admitted : (r : Reading) → asks ≡ taken r → postOn b s ≡ taken (applied b (r .post) (r .amount))
+  pub was-admitted : (r : Measured) → asks ≡ taken r → postOn b s ≡ taken (applied b (r .post) (r .amount))
   was-admitted r h = let z = as-admitted r h in post-taken b s r (z .0) (z .1) (z .2)
 
-  pub admitted-applies : Sound b → (r : Reading) → asks ≡ taken r → Applies b (r .post) (r .amount)
+  pub admitted-applies : Sound b → (r : Measured) → asks ≡ taken r → Applies b (r .post) (r .amount)
   admitted-applies sound r h = let z = as-admitted r h in applies b s sound r (z .0) (z .1) (z .2)

@@ -12,12 +12,12 @@ use lib.ListN.{length, getD, set, length-set}
 use lib.Seq.{getD-set-same, getD-set-other}
 use Rattle.layout.specs.Outline.{mayPost}
 use Rattle.layout.specs.declared.post.Post.{Post}
+use Rattle.layout.proofs.Each.{sum-point}
 use Rattle.book.specs.Entered.{forms, enters, handles}
 use Rattle.book.specs.Ledger.{held, accountOf, cellOf, cell, total, moved, raised, brings, settled}
-use Rattle.book.specs.Posting.{withPost, afterReceipt, afterIssue, afterForming, afterTransfer, afterClose, applied, storeAfter, sumsAfter, handledAfter, Entry}
+use Rattle.book.specs.Posting.{withPost, afterReceipt, afterIssue, afterForming, afterTransfer, afterClose, applied, storeAfter, sumsAfter, handledAfter, Admissible}
 use Rattle.book.specs.Site.{Sound, storedTo, inBook}
 use Rattle.book.specs.declared.site.Book.{Book}
-use Rattle.book.proofs.Sums.{sum-point}
 use Rattle.book.proofs.ledger.Laws.{total-set, total-other, cell-le, length-moved, total-moved, length-settled, total-settled, length-raised, handled-raised, total-raised}
 
 -- ---- what passing the checks tells of a post that is applied
@@ -382,7 +382,7 @@ applied-step b p n h a = go (decLe (p .kind) 2) (ℕ-discrete (p .kind) 3) (ℕ-
         (λ e. absurd (true≢false e)))
 
 -- what lets a post into the lists of a sound book
-pub entry-of : (b : Book) (p : Post) (n : ℕ) → Sound b → Applies b p n → p .kind ≤ 12 → Entry (b .setup .counted) p n
+pub entry-of : (b : Book) (p : Post) (n : ℕ) → Sound b → Applies b p n → p .kind ≤ 12 → Admissible (b .setup .counted) p n
 entry-of b p n h a k =
     record {
       kind = k;

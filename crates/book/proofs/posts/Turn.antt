@@ -10,10 +10,10 @@ use lib.Seq.{take-length}
 use Rattle.amounts.specs.Decline.{Answer, taken, declined}
 use Rattle.layout.specs.declared.setup.Setup.{Setup}
 use Rattle.book.specs.Ledger.{held, cell, total, settled}
-use Rattle.book.specs.Posting.{withPost, applied, storeAfter, sumsAfter, handledAfter, admitted, postOn, Entry}
+use Rattle.book.specs.Posting.{withPost, applied, storeAfter, sumsAfter, handledAfter, admitted, postOn, Admissible}
 use Rattle.book.specs.Posts.{partOf, takenTo, runOn}
 use Rattle.book.specs.Site.{Sound}
-use Rattle.book.specs.declared.posting.Reading.{Reading}
+use Rattle.book.specs.declared.posting.Measured.{Measured}
 use Rattle.book.specs.declared.site.Book.{Book}
 use Rattle.book.proofs.posting.Checks.{not-admitted, was-admitted, admitted-applies}
 use Rattle.book.proofs.posting.Laws.{Applies, applied-lists, applied-close, entry-of, total-few, handled-few}
@@ -56,7 +56,7 @@ module _ (t : Turn) where
   next = takenTo b (t .posts) (t .place + 1)
 
   -- the next post, by the set-up of the book given in
-  abbrev pub tried : Answer Reading
+  abbrev pub tried : Answer Measured
   tried = admitted (b .setup .outline) (b .setup .numbers) (c .closed) (c .posts) (c .store) (c .sums) bytes
 
   same-setup : c .setup ≡ b .setup
@@ -71,7 +71,7 @@ module _ (t : Turn) where
   pub turn-declined : (n : ℕ) → tried ≡ declined n → next ≡ declined n
   turn-declined n e = taken-next b (t .posts) (t .place) c (t .so-far) ∙ not-admitted c bytes n (as-tried ∙ e)
 
-  module _ (r : Reading) (e : tried ≡ taken r) where
+  module _ (r : Measured) (e : tried ≡ taken r) where
     turn-applies : Applies c (r .post) (r .amount)
     turn-applies = admitted-applies c bytes still-sound r (as-tried ∙ e)
 
@@ -97,9 +97,9 @@ module _ (t : Turn) where
       before-close : r .post .kind ≤ 12
       before-close = omega (arith, turn-applies .kind, k)
 
-      pub turn-entry : Entry (b .setup .counted) (r .post) (r .amount)
+      pub turn-entry : Admissible (b .setup .counted) (r .post) (r .amount)
       turn-entry =
-          subst (λ (u : Setup). Entry (u .counted) (r .post) (r .amount)) same-setup (entry-of c (r .post) (r .amount) still-sound turn-applies before-close)
+          subst (λ (u : Setup). Admissible (u .counted) (r .post) (r .amount)) same-setup (entry-of c (r .post) (r .amount) still-sound turn-applies before-close)
 
       pub may-store : (r .post .kind ≤ 3 → (r .post .material < 12) × (r .post .quantity ≤ 2000000000))
           × (((m : ℕ) → m < 12 → getD (c .store) m 0 ≤ 2 * 10 ^ 9 * 4000)
@@ -109,7 +109,7 @@ module _ (t : Turn) where
         (λ m hm. omega (arith, few-posts, still-sound .stores m hm), turn-applies .in-store),
       )
 
-      pub may-sum : Entry (b .setup .counted) (r .post) (r .amount)
+      pub may-sum : Admissible (b .setup .counted) (r .post) (r .amount)
           × ((length (c .sums) ≡ 576)
           × (((s : ℕ) → s < 8 → total (c .sums) s ≤ 2 * 10 ^ 15 * 4000)
           × (5 ≤ r .post .kind → r .amount ≤ cell (c .sums) held (r .post .stage) (r .post .substance))))
@@ -118,7 +118,7 @@ module _ (t : Turn) where
         (still-sound .sums-long, (λ s hs. omega (arith, few-posts, total-few c still-sound s hs), λ l. turn-applies .in-holding l before-close)),
       )
 
-      pub may-handle : Entry (b .setup .counted) (r .post) (r .amount) × ((s : ℕ) → s < 8 → getD (c .handled) s 0 ≤ 2 * 10 ^ 15 * 4000)
+      pub may-handle : Admissible (b .setup .counted) (r .post) (r .amount) × ((s : ℕ) → s < 8 → getD (c .handled) s 0 ≤ 2 * 10 ^ 15 * 4000)
       may-handle = (turn-entry, λ s hs. omega (arith, few-posts, handled-few c still-sound s hs))
 
       pub turn-entered : (store sums handled : List ℕ) → store ≡ storeAfter (c .store) (r .post)

@@ -18,7 +18,7 @@ use Rattle.layout.specs.Each.{sumTo}
 use Rattle.layout.specs.Setup.{noRates}
 use Rattle.layout.specs.declared.setup.Rates.{Rates}
 use Rattle.layout.specs.declared.setup.Setup.{Setup}
-use Rattle.layout.proofs.Each.{sum-again}
+use Rattle.layout.proofs.Each.{sum-again, term-le, sum-mono}
 use Rattle.book.specs.Ledger.{cell, total}
 use Rattle.book.specs.Report.{atOne, atTwo, ratesOf, cellsOf, lineFrom, lineFor, stageLine, lineTo, sixOf, weigh, mapHeadings, filingOf, dueIn, reportAt, reportOf, weighCells, addLines}
 use Rattle.book.specs.Site.{stored, inBook, Rated, Sound}
@@ -27,7 +27,6 @@ use Rattle.book.specs.declared.report.Headings.{Headings}
 use Rattle.book.specs.declared.report.Line.{Line}
 use Rattle.book.specs.declared.report.Filing.{Filing}
 use Rattle.book.specs.declared.site.Book.{Book}
-use Rattle.book.proofs.Sums.{term-le, sum-mono}
 
 -- an amount goes to one of the two destinations
 pub one-or-two : (destination n : ℕ) → atOne destination n + atTwo destination n ≡ n

@@ -5,7 +5,7 @@ use borrow.Author.Needs.{needs}
 use Rattle.amounts.specs.Decline.{taken}
 use Rattle.layout.proofs.verdict.Laws.{holds, misses}
 use Rattle.book.specs.Posting.{hasRoom, readOf, readAnswer}
-use Rattle.book.specs.declared.posting.Reading.{Reading}
+use Rattle.book.specs.declared.posting.Measured.{Measured}
 use Rattle.book.proofs.posting.Checks.{in-place, unread, no-room, too-little, all-there}
 use Rattle.book.proofs.posting.admit.Statement.{statement}
 use Rattle.book.proofs.posting.admit.Tie as tie
@@ -13,7 +13,7 @@ use Rattle.book.proofs.posting.admit.Tie as tie
 abbrev start : tie.After-known-told2 → tie.Start
 start c = c .before .before .before .before .before
 
-abbrev reading : tie.After-known-told2 → Reading
+abbrev reading : tie.After-known-told2 → Measured
 reading c = c .before .r .given .0 .0
 
 was-read : (c : tie.After-known-told2) → let a = start c .args in readOf (a .o) (now (a .numbers)) (a .closed) (now (a .s)) ≡ taken (reading c)

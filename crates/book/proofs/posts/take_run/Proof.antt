@@ -9,7 +9,7 @@ use Rattle.amounts.specs.Decline.{taken}
 use Rattle.book.specs.Answer.{outcome}
 use Rattle.book.specs.Posting.{readAnswer, admitted}
 use Rattle.book.specs.Posts.{partOf, takenTo}
-use Rattle.book.specs.declared.posting.Reading.{Reading}
+use Rattle.book.specs.declared.posting.Measured.{Measured}
 use Rattle.book.proofs.posts.Laws.{none-yet, stays-declined, run-declined, run-taken}
 use Rattle.book.proofs.posts.Turn.{Turn, part-at, part-fits, tried, turn-declined, few-posts, may-settle, turn-closed, may-store, may-sum, may-handle, turn-entered}
 use Rattle.book.proofs.posts.take_run.Statement.{statement}
@@ -52,7 +52,7 @@ was-tried c =
 abbrev at : tie.After-known-told2 Inv-loop μ-loop → tie.After-admit Inv-loop μ-loop
 at c = c .before .before .before
 
-abbrev reading : tie.After-known-told2 Inv-loop μ-loop → Reading
+abbrev reading : tie.After-known-told2 Inv-loop μ-loop → Measured
 reading c = c .before .r .given .0 .0
 
 was-read : (c : tie.After-known-told2 Inv-loop μ-loop) → tried (turn (at c)) ≡ taken (reading c)
