@@ -1,10 +1,10 @@
-pub mod Demand
+pub mod Balance
 pub mod Setting
 pub mod Moved
 pub mod Flows
 pub mod Closing
 pub mod Posted
 pub mod Told
-pub mod Claim
+pub mod Demand
 pub mod Weighing
 pub mod Singles

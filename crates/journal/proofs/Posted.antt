@@ -27,7 +27,7 @@ use Rattle.book.proofs.posting.Laws.{Applies, applied-receipt, applied-issue, a
 use Rattle.book.proofs.posts.Laws.{post-step}
 use Rattle.journal.specs.Demand.{sumOver}
 use Rattle.journal.specs.Weighing.{issues, moves, closes}
-use Rattle.journal.proofs.Demand.{sum-append}
+use Rattle.journal.proofs.Balance.{sum-append}
 use Rattle.journal.proofs.Flows.{Flows, flows, none-moved, none-issued}
 use Rattle.journal.proofs.Closing.{Closes, closes-cells}
 

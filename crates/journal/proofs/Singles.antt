@@ -12,7 +12,7 @@ use Rattle.book.specs.declared.site.Book.{Book}
 use Rattle.book.proofs.posts.Laws.{posts-taken}
 use Rattle.journal.specs.Block.{kindOf, countOf, bodyOf, blockOn}
 use Rattle.journal.specs.Demand.{Call, post, after, run}
-use Rattle.journal.proofs.Demand.{Kind, sets, describes, posts, block-taken}
+use Rattle.journal.proofs.Balance.{Kind, sets, describes, posts, block-taken}
 
 run-append : (b : Book) (xs ys : List Call) → run b (xs ++ ys) ≡ run (run b xs) ys
 unfolding run

@@ -23,7 +23,7 @@ use Rattle.book.proofs.stage.Taken.{described-taken}
 use Rattle.journal.specs.Block.{kindOf, countOf, bodyOf}
 use Rattle.journal.specs.Demand.{Call, post, block, answerTo, run, keep, accepted, postsIn, postsOf, blocksIn, blocksOf, substancesOf}
 use Rattle.journal.specs.Weighing.{closes}
-use Rattle.journal.proofs.Demand.{Kind, sets, describes, posts, block-taken, no-block, its-block, no-posts, its-posts, stage-later}
+use Rattle.journal.proofs.Balance.{Kind, sets, describes, posts, block-taken, no-block, its-block, no-posts, its-posts, stage-later}
 use Rattle.journal.proofs.Posted.{State, still-open, shut, Posted, posted-none, posted-next, posted-many}
 use Rattle.journal.proofs.Setting.{SetBy, set-by, set-next}
 

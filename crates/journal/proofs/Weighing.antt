@@ -28,7 +28,7 @@ use Rattle.journal.specs.Block.{bodyOf}
 use Rattle.journal.specs.Demand as demand
 use Rattle.journal.specs.Demand.{Call, run, accepted, postsOf, blocksOf, setUpBlock, substancesOf, countedIn, sumOver, Balanced}
 use Rattle.journal.specs.Weighing.{numbersOf, classOf, waterTo, residueTo, ratesFor, stocks, opening, bought, issued, store, issues, moves, under, formed, handled, came, left, remains, closes, heldAt, toGas, toWater, gasTotal, waterTotal, lineOf, told, answerOf, Weighed, ReportByPosts}
-use Rattle.journal.proofs.Demand.{report-balanced}
+use Rattle.journal.proofs.Balance.{report-balanced}
 use Rattle.journal.proofs.Posted.{cameSum, leftSum, movedSum, State, still-open, shut}
 use Rattle.journal.proofs.Setting.{SetBy}
 use Rattle.journal.proofs.Told.{Setting, unset, set-up, Told, told-run, substances-run}

@@ -36,7 +36,7 @@ use Rattle.journal.specs.declared.reading.Reading.{Reading}
 use Rattle.journal.specs.declared.reading.Stopped.{Stopped}
 use Rattle.journal.specs.declared.reading.Stopped.the-variants.{No, By}
 use Rattle.journal.proofs.text.Laws.{written-none, room-then, puts-then, puts-length, puts-as, decimal-short, refused-is, tries-none, tries-at}
-use Rattle.journal.proofs.Demand.{Kind, sets, describes, posts, block-taken}
+use Rattle.journal.proofs.Balance.{Kind, sets, describes, posts, block-taken}
 
 -- ---- one part
 
