@@ -1,0 +1,4 @@
+pub mod Account
+pub mod Fields
+pub mod Kind
+pub mod Moves

@@ -1,0 +1,145 @@
+// What a post does is one value, a move.
+ghost use mathlib.Core.Path.{_≡_};
+ghost use Prim.Native.Nat.{_*_, _^_, _<_};
+ghost use lib.ListN.{getD};
+ghost use Rattle.amounts.specs.Loss as losses;
+ghost use Rattle.post.specs.Moves.{floatsUnused, measured, moveOf, moveAt, answer};
+use crate::fields;
+use crate::fields::Post;
+use crate::kind;
+use crate::kind::Does;
+use crate::kind::KindRead;
+use crate::kind::Measure;
+use amounts::coefficient;
+use amounts::decline;
+use amounts::decline::Decline;
+use amounts::loss;
+use amounts::loss::Loss;
+use amounts::pattern;
+use layout::outline::Outline;
+
+// Received into a store; issued from a store to a stage's holdings; brought to an account from outside; gone from a holding to an
+// account; the close. Grams of a material, micrograms of a substance.
+pub enum Move {
+    Received {
+        material: usize,
+        grams: u64,
+    },
+    Issued {
+        material: usize,
+        stage: usize,
+        grams: u64,
+    },
+    Brought {
+        account: usize,
+        stage: usize,
+        substance: usize,
+        amount: u64,
+    },
+    Gone {
+        account: usize,
+        stage: usize,
+        substance: usize,
+        amount: u64,
+    },
+    Close,
+}
+
+pub enum MoveRead {
+    Known(Move),
+    Declined(Decline),
+}
+
+fn has_no_floats(p: Post) -> bool
+    ensures { λ r. ⌜ r ≡ floatsUnused p ⌝ }
+{
+    if !pattern::is_zero(p.w) {
+        return false;
+    }
+    if !pattern::is_zero(p.u) {
+        return false;
+    }
+    if !pattern::is_zero(p.p) {
+        return false;
+    }
+    pattern::is_zero(p.q)
+}
+
+// The management number at a place, 0 where there is none.
+fn number_at(numbers: &[u16; 8], place: u8) -> u16
+    ensures { λ r. ⌜ r ≡ getD (now (numbers .entry)) place 0 ⌝ }
+{
+    if place >= 8 {
+        return 0;
+    }
+    numbers[place as usize]
+}
+
+fn measure(m: Measure, numbers: &[u16; 8], p: Post) -> Loss
+    requires { ⌜ p .quantity * p .content < 2 ^ 64 ⌝ }
+    ensures { λ r. ⌜ losses.answer r ≡ measured m (now (numbers .entry)) p ⌝ }
+{
+    if let Measure::Loss = m {
+        let found = coefficient::row_of(number_at(numbers, p.substance));
+        return loss::loss_over(p.material, found, p.w, p.u, p.p, p.q);
+    }
+    if !has_no_floats(p) {
+        return Loss::Declined(decline::RANGE);
+    }
+    if let Measure::Content = m {
+        return Loss::Micrograms(p.quantity * (p.content as u64));
+    }
+    Loss::Micrograms(p.quantity)
+}
+
+fn move_of(does: Does, p: Post, n: u64) -> Move
+    ensures { λ r. ⌜ r ≡ moveOf does p n ⌝ }
+{
+    match does {
+        Does::Receives => Move::Received {
+            material: p.material as usize,
+            grams: n,
+        },
+        Does::Issues => Move::Issued {
+            material: p.material as usize,
+            stage: p.stage as usize,
+            grams: n,
+        },
+        Does::Brings(account) => Move::Brought {
+            account,
+            stage: p.stage as usize,
+            substance: p.substance as usize,
+            amount: n,
+        },
+        Does::Leaves(account) => Move::Gone {
+            account,
+            stage: p.stage as usize,
+            substance: p.substance as usize,
+            amount: n,
+        },
+        Does::Closes => Move::Close,
+    }
+}
+
+// What the bytes of a post move, by an outline and the management numbers: declined by 6 to 9.
+pub fn read_move(o: Outline, numbers: &[u16; 8], s: &[u8]) -> MoveRead
+    ensures { λ r. ⌜ answer r ≡ moveAt o (now (numbers .entry)) (now (s .entry)) ⌝ }
+{
+    if s.len() != 48 {
+        return MoveRead::Declined(decline::LAYOUT);
+    }
+    let p = fields::decode(s);
+    let KindRead::Known(k) = kind::kind_of(o, p.kind) else {
+        return MoveRead::Declined(decline::LAYOUT);
+    };
+    let limits = k.limits;
+    let by = k.measure;
+    let does = k.does;
+    if !kind::fields_fit(limits, p) {
+        return MoveRead::Declined(decline::LAYOUT);
+    }
+    match measure(by, numbers, p) {
+        Loss::Micrograms(n) => MoveRead::Known(move_of(does, p, n)),
+        Loss::Declined(d) => MoveRead::Declined(d),
+    }
+}
