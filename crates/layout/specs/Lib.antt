@@ -5,3 +5,5 @@ pub mod Verdict
 pub mod Setup
 pub mod Stage
 pub mod Post
+pub mod Frame
+pub mod Posts

@@ -82,7 +82,7 @@ countedAll classes contents = listTo 96 (λ i. valueOr 0 (countedOf (getD classe
 
 -- of a stage that is not described yet
 abbrev pub noRates : Rates
-noRates = record { side = 0; «gas_removal» = 0; «gas_destruction» = 0; «water_removal» = 0; «water_destruction» = 0 }
+noRates = record { «gas_removal» = 0; «gas_destruction» = 0; «water_removal» = 0; «water_destruction» = 0 }
 
 abbrev pub setupOf : ℕ → List ℕ → Setup
 setupOf count body =
@@ -93,5 +93,6 @@ setupOf count body =
       counted = countedAll (classesIn body) (contentsIn body);
       «water_to» = replicate 8 0;
       «residue_to» = replicate 8 0;
+      sides = replicate 64 0;
       rates = replicate 64 noRates;
     }

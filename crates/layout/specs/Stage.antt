@@ -13,30 +13,32 @@ use Rattle.layout.specs.Setup.{within}
 use Rattle.layout.specs.declared.outline.Outline.{Outline}
 use Rattle.layout.specs.declared.setup.Rates.{Rates}
 
--- "side (1 gas, 2 water), then gas removal, gas destruction, water removal, water destruction, 32 bits"
+-- ".. then gas removal, gas destruction, water removal, water destruction, 32 bits"
 unfoldable pub ratesAt : List ℕ → Rates
 unfolding le
 ratesAt s =
     record {
-      side = getD s 0 0;
       «gas_removal» = le 4 (drop 1 s);
       «gas_destruction» = le 4 (drop 5 s);
       «water_removal» = le 4 (drop 9 s);
       «water_destruction» = le 4 (drop 13 s);
     }
 
--- "17 bytes per substance"
+-- "17 bytes per substance": "side (1 gas, 2 water)", and the rates behind it
+abbrev pub sideRow : List ℕ → ℕ → ℕ
+sideRow s i = getD s (i * 17) 0
+
 abbrev pub rateRow : List ℕ → ℕ → Rates
 rateRow s i = ratesAt (drop (i * 17) s)
 
 -- ".. to 1,000,000"
-abbrev pub ratesFit : Rates → Bool
-ratesFit r =
-    within 1 2 (r .side)
+abbrev pub ratesFit : ℕ → Rates → Bool
+ratesFit side r =
+    within 1 2 side
     && (isPpm (r .«gas_removal») && (isPpm (r .«gas_destruction») && (isPpm (r .«water_removal») && isPpm (r .«water_destruction»))))
 
 abbrev pub allRatesFit : ℕ → List ℕ → Bool
-allRatesFit n s = allTo n (λ i. ratesFit (rateRow s i))
+allRatesFit n s = allTo n (λ i. ratesFit (sideRow s i) (rateRow s i))
 
 -- 6: "8: 1 public water, 2 sewer. 9: residues 1 off site, 2 landfill. From 10, 17 bytes per substance"; all other bytes are zero
 abbrev pub stageBodyChecks : ℕ → List ℕ → List Check

@@ -1,8 +1,8 @@
 // Numbers and zero runs in bytes of any length. A byte that is missing counts as 0.
 ghost use mathlib.Core.Path.{_≡_};
-ghost use Prim.Native.Nat.{_<_};
+ghost use Prim.Native.Nat.{min, _<_};
 ghost use lib.ListN.{drop, getD};
-ghost use Rattle.layout.specs.Bytes.{le, allZero};
+ghost use Rattle.layout.specs.Bytes.{le, part, allZero};
 
 fn wide(x: u8) -> u16
     ensures { λ r. ⌜ (r ≡ x) × (r < 256) ⌝ }
@@ -58,4 +58,21 @@ pub fn all_zero(s: &[u8]) -> bool
         i += 1;
     }
     true
+}
+
+fn lower(a: usize, b: usize) -> usize
+    ensures { λ r. ⌜ r ≡ min a b ⌝ }
+{
+    if a < b { a } else { b }
+}
+
+// The bytes from one place up to another, as far as there are bytes.
+pub fn is_zero(s: &[u8], from: usize, to: usize) -> bool
+    ensures { λ r. ⌜ r ≡ allZero (part from to (now (s .entry))) ⌝ }
+{
+    let end = lower(to, s.len());
+    if from >= end {
+        return true;
+    }
+    all_zero(&s[from..end])
 }

@@ -1,7 +1,9 @@
-// What the bodies of kind 1 and kind 2 blocks and posts say, and their turns and limits, without a book.
+// What a block's frame and the bodies of its kinds say, and posts, their turns and limits, without a book.
 pub mod bytes;
+pub mod frame;
 pub mod outline;
 pub mod post;
+pub mod posts;
 pub mod setup;
 pub mod stage;
 pub mod verdict;

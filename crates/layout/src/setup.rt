@@ -15,17 +15,16 @@ use amounts::content;
 use amounts::content::Counted;
 use amounts::decline;
 
-// A pair's side and rates in ppm, of a stage and a substance. The side is as wide as the rates, so that a row has no unused bytes and is copied as one.
+// A pair's rates in ppm, of a stage and a substance.
 pub struct Rates {
-    pub side: u32,
     pub gas_removal: u32,
     pub gas_destruction: u32,
     pub water_removal: u32,
     pub water_destruction: u32,
 }
 
-// What the set-up blocks say. Contents are kept as counted: for the material m and the substance s at m * 8 + s. Rates stand
-// at stage * 8 + substance.
+// What the set-up blocks say. Contents are kept as counted: for the material m and the substance s at m * 8 + s. A pair's side
+// and rates stand at stage * 8 + substance, and are 0 where the stage isn't described yet.
 pub struct Setup {
     pub outline: Outline,
     pub numbers: [u16; 8],
@@ -33,11 +32,11 @@ pub struct Setup {
     pub counted: [u32; 96],
     pub water_to: [u8; 8],
     pub residue_to: [u8; 8],
+    pub sides: [u8; 64],
     pub rates: [Rates; 64],
 }
 
 pub const NO_RATES: Rates = Rates {
-    side: 0,
     gas_removal: 0,
     gas_destruction: 0,
     water_removal: 0,
@@ -245,6 +244,7 @@ pub fn parse(count: u8, body: &[u8]) -> Setup
         counted,
         water_to: [0; 8],
         residue_to: [0; 8],
+        sides: [0; 64],
         rates: [NO_RATES; 64],
     }
 }

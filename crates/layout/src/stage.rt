@@ -14,7 +14,7 @@ use crate::setup::Rates;
 use crate::verdict::Verdict;
 use amounts::decline;
 
-// The side and the rates that stand from a place on.
+// The rates of the row that stands from a place on, behind its side.
 pub fn rates_at(s: &[u8], at: usize) -> Rates
     ensures { λ r. ⌜ r ≡ ratesAt (drop at (now (s .entry))) ⌝ }
 {
@@ -22,7 +22,6 @@ pub fn rates_at(s: &[u8], at: usize) -> Rates
         return NO_RATES;
     }
     Rates {
-        side: bytes::byte_at(s, at) as u32,
         gas_removal: bytes::le32(s, at + 1),
         gas_destruction: bytes::le32(s, at + 5),
         water_removal: bytes::le32(s, at + 9),
@@ -30,13 +29,10 @@ pub fn rates_at(s: &[u8], at: usize) -> Rates
     }
 }
 
-fn rates_fit(r: Rates) -> bool
-    ensures { λ x. ⌜ x ≡ ratesFit r ⌝ }
+fn rates_fit(side: u8, r: Rates) -> bool
+    ensures { λ x. ⌜ x ≡ ratesFit side r ⌝ }
 {
-    if r.side < 1 {
-        return false;
-    }
-    if r.side > 2 {
+    if !setup::is_within(1, 2, side) {
         return false;
     }
     if r.gas_removal > 1_000_000 {
@@ -51,13 +47,13 @@ fn rates_fit(r: Rates) -> bool
     r.water_destruction <= 1_000_000
 }
 
-fn all_rates_fit(s: &[u8], n: usize) -> bool
-    requires { ⌜ n * 17 ≤ length (now s) ⌝ }
+fn all_rates_fit(s: &[u8], n: u8) -> bool
     ensures { λ r. ⌜ r ≡ allRatesFit n (now (s .entry)) ⌝ }
 {
+    let end = n as usize;
     let mut i: usize = 0;
-    while i < n {
-        if !rates_fit(rates_at(s, i * 17)) {
+    while i < end {
+        if !rates_fit(bytes::byte_at(s, i * 17), rates_at(s, i * 17)) {
             return false;
         }
         i += 1;
@@ -76,7 +72,7 @@ fn checked_body(substances: u8, body: &[u8]) -> Verdict
         return Verdict::Declined(decline::LAYOUT);
     }
     let n = substances as usize;
-    if !all_rates_fit(&body[2..], n) {
+    if !all_rates_fit(&body[2..], substances) {
         return Verdict::Declined(decline::LAYOUT);
     }
     if !bytes::all_zero(&body[2 + n * 17..]) {

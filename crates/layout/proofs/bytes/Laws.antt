@@ -1,13 +1,16 @@
 -- Numbers in bytes, one law for every width. Assumes nothing.
-use mathlib.Core.Path.{_≡_, refl, sym, _∙_}
+use mathlib.Core.Path.{_≡_, refl, sym, ap, _∙_}
+use mathlib.Core.Bool.{true}
 use mathlib.Core.List.{List, [], _∷_}
-use Prim.Native.Nat.{ℕ, zero, suc, _+_, _-_, _*_, _^_, _≤_, _<_}
+use Prim.Native.Nat.{ℕ, zero, suc, _+_, _-_, _*_, _^_, _≤_, _<_, min}
 use native.Mathlib.Decide.{decLt}
 use native.Mathlib.Nat.{zero-add, one-mul, suc-add, mul-zero, mul-assoc, pow-succ'}
 use native.Mathlib.Omega.{arith}
-use lib.ListN.{length, getD, take, drop, length-drop, drop-of-length-le, List·getD-eq-default}
+use lib.Dec.{eqb}
+use lib.ListN.{length, getD, take, drop, length-take, length-drop, drop-of-length-le, List·getD-eq-default}
 use lib.Seq.{drop-cons, drop-drop, take-all}
-use Rattle.layout.specs.Bytes.{le}
+use Rattle.layout.specs.Bytes.{le, part, allZero}
+use Rattle.layout.specs.Each.{allTo}
 
 le-nil : (n : ℕ) → le n [] ≡ 0
 unfolding le
@@ -17,6 +20,13 @@ le-nil (suc n) = refl
 -- past the end
 pub le-out : (n at : ℕ) (s : List ℕ) → length s ≤ at → le n (drop at s) ≡ 0
 le-out n at s h = rw (drop-of-length-le s h) (le-nil n)
+
+-- n bytes hold a number below 256 ^ n
+pub le-small : (n : ℕ) (s : List ℕ) → ((i : ℕ) → getD s i 0 < 256) → le n s < 256 ^ n
+unfolding le
+le-small zero s h = omega arith
+le-small (suc n) [] h = let ih = le-small n [] h in rw pow-succ' (omega arith)
+le-small (suc n) (x ∷ s) h = let ih = le-small n s (λ i. h (suc i)) in rw pow-succ' (omega (arith, h 0))
 
 -- a number of m + n bytes: the low m, and the high n times 256 ^ m
 split : (m n : ℕ) (s : List ℕ) → le (m + n) s ≡ le m s + 256 ^ m * le n (drop m s)
@@ -42,3 +52,19 @@ two at s = omega (arith, one at s, one (at + 1) s, split-at 1 1 at s)
 -- what `&s[from..]` is
 pub tail-is : (from : ℕ) (s : List ℕ) → take (length s - from) (drop from s) ≡ drop from s
 tail-is from s = take-all (length s - from) (drop from s) (simp length-drop (omega arith))
+
+-- a part that goes on behind the last byte ends there
+module _ (from to end : ℕ) (s : List ℕ) (e : end ≡ min to (length s)) where
+  pub none-left : end ≤ from → true ≡ allZero (part from to s)
+  unfolding allTo
+  none-left h =
+      let none : 0 ≡ length (part from to s) = simp (length-take, length-drop) (omega arith) in
+      ap (λ n. allTo n (λ i. eqb (getD (part from to s) i 0) 0)) none
+
+  pub part-is : take (end - from) (drop from s) ≡ part from to s
+  part-is = go (decLt (length s) to)
+    where
+      go : Dec (length s < to) → take (end - from) (drop from s) ≡ part from to s
+      go (yes h) =
+          take-all (end - from) (drop from s) (simp length-drop (omega arith)) ∙ sym (take-all (to - from) (drop from s) (simp length-drop (omega arith)))
+      go (no h) = let same : end ≡ to = omega arith in rw same

@@ -70,6 +70,7 @@ read count materials stages numbers classes counted =
       counted = counted;
       «water_to» = replicate 8 0;
       «residue_to» = replicate 8 0;
+      sides = replicate 64 0;
       rates = replicate 64 noRates;
     }
 

@@ -1,6 +1,6 @@
 -- Going through a table of checks to a verdict, and back from a verdict to the table's answer. Assumes nothing.
 use mathlib.Core.Path.{_≡_, refl, sym, _∙_}
-use mathlib.Core.Bool.{Bool, true, false, not}
+use mathlib.Core.Bool.{Bool, true, false, not, cond}
 use borrow.Author.Tests.{not-true, not-false}
 use mathlib.Core.List.{List, [], _∷_}
 use Prim.Native.Nat.{ℕ}
@@ -30,6 +30,12 @@ module _ {A : Type 0} where
   unfolding checked
   stop true n rows a e = let z : _≡_ {A = ℕ} 0 1 = cc in absurd (omega arith)
   stop false n rows a e = refl
+
+  -- a row before a table, by its test as the code has it
+  pub row-is : {v r : Verdict} {ok : Bool} (t : Bool) (n : ℕ) (rows : List Check) (a : A) → r ≡ cond ok v (Declined (record { number = n })) → ok ≡ t → v ≡ verdictOf (checked rows a) → r ≡ verdictOf (checked (check t n ∷ rows) a)
+  unfolding checked
+  row-is true n rows a e o h = rw (e, o, h)
+  row-is false n rows a e o h = rw (e, o)
 
   -- where none is left
   pub through : (a : A) → Accepted ≡ verdictOf (checked [] a)

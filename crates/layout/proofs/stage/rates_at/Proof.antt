@@ -7,12 +7,6 @@ use Rattle.layout.proofs.stage.rates_at.Tie as tie
 returns : tie.Need-returns
 returns c = let a = c .before .before .args in no-row (a .at) (now (a .s)) (c .if1 .taken)
 
-byte-at-requires : tie.Need-byte-at-requires
-byte-at-requires c κs = search needs
-
-cast-t6 : tie.Need-cast-t6
-cast-t6 c = search needs
-
 add-le32 : tie.Need-add-le32
 add-le32 c = search needs
 
@@ -39,16 +33,14 @@ le32-requires-4 c κs = search needs
 
 returns-2 : tie.Need-returns-2
 returns-2 c =
-    let a = c .before .before .before .before .before .before .before .args in
-    row-at (a .at) (now (a .s)) _ _ _ _ _ (c .before .before .before .before .byte-at .ensures) (c .before .before .before .le32 .ensures) (c .before .before .le322 .ensures) (c .before .le323 .ensures) (c .le324 .ensures)
+    let a = c .before .before .before .before .before .before .args in
+    row-at (a .at) (now (a .s)) _ _ _ _ (c .before .before .before .le32 .ensures) (c .before .before .le322 .ensures) (c .before .le323 .ensures) (c .le324 .ensures)
 
 pub rates-at-spec : {M : Type 1} → statement M
 rates-at-spec =
     tie.close
     (tie.spec
     returns
-    byte-at-requires
-    cast-t6
     add-le32
     le32-requires
     add-le32-2

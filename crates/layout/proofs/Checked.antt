@@ -1,0 +1,32 @@
+-- Laws of a table of checks, whatever the value that it guards. Assumes nothing.
+use mathlib.Core.Path.{_≡_, refl}
+use mathlib.Core.Bool.{true, false}
+use mathlib.Core.List.{List, [], _∷_, _++_}
+use Prim.Native.Nat.{ℕ}
+use native.Mathlib.Omega.{arith}
+use Rattle.amounts.specs.Decline.{taken, declined, Check, check, checked, onTaken}
+
+-- a table after another
+pub checked-append : {A B : Type 0} (xs ys : List Check) (a : A) (b : B) → checked (xs ++ ys) a ≡ onTaken (checked xs b) (λ _. checked ys a)
+unfolding checked
+checked-append [] ys a b = refl
+checked-append (check true n ∷ xs) ys a b = checked-append xs ys a b
+checked-append (check false n ∷ xs) ys a b = refl
+
+abbrev pub AllPass : List Check → Type 0
+AllPass [] = Unit
+AllPass (check t n ∷ rows) = (t ≡ true) × AllPass rows
+
+-- a table that takes has passed each check, and takes what it was given
+pub passed : {A : Type 0} (rows : List Check) (a b : A) → checked rows a ≡ taken b → AllPass rows × (b ≡ a)
+unfolding checked
+passed [] a b e = (tt, cc)
+passed (check true n ∷ rows) a b e = let z = passed rows a b e in ((refl, z .0), z .1)
+passed (check false n ∷ rows) a b e = let z : _≡_ {A = ℕ} 0 1 = cc in absurd (omega arith)
+
+-- a table that declines does so whatever it was given
+pub same-decline : {A B : Type 0} (rows : List Check) (a : A) (b : B) (n : ℕ) → checked rows a ≡ declined n → checked rows b ≡ declined n
+unfolding checked
+same-decline [] a b n e = let z : _≡_ {A = ℕ} 0 1 = cc in absurd (omega arith)
+same-decline (check true m ∷ rows) a b n e = same-decline rows a b n e
+same-decline (check false m ∷ rows) a b n e = cc

@@ -1,0 +1,44 @@
+-- A block's frame (document 01, "Journal blocks" and "Why a call is declined, in checking order"): its tag, check sums, kind and number.
+use Prim.Native.Nat.{ℕ, _+_, _*_, _%_}
+use mathlib.Core.Bool.{Bool, _&&_}
+use mathlib.Core.List.{List, [], _∷_}
+use lib.Dec.{eqb}
+use lib.ListN.{length, getD, take, drop}
+use Rattle.amounts.specs.Decline as number
+use Rattle.amounts.specs.Decline.{Check, check}
+use Rattle.layout.specs.Bytes.{le, part}
+use Rattle.layout.specs.Each.{sumTo}
+use Rattle.layout.specs.Setup.{within}
+
+-- "0–3 "PRTR" in ASCII; 4 kind; 5 count; 6–7 blocks accepted so far; 8–507 body"
+abbrev pub hasTag : List ℕ → Bool
+hasTag s = eqb (getD s 0 0) 80 && (eqb (getD s 1 0) 82 && (eqb (getD s 2 0) 84 && eqb (getD s 3 0) 82))
+
+abbrev pub blockKind : List ℕ → ℕ
+blockKind s = getD s 4 0
+
+abbrev pub countOf : List ℕ → ℕ
+countOf s = getD s 5 0
+
+abbrev pub bodyOf : List ℕ → List ℕ
+bodyOf s = part 8 508 s
+
+-- "508–509 the sum of bytes 0–507 modulo 65,521; 510–511 the sum, over the same bytes, of each byte times (its offset + 1), modulo 65,521"
+unfoldable pub plainSum : List ℕ → ℕ
+unfolding sumTo
+plainSum s = sumTo (length s) (λ i. getD s i 0) % 65521
+
+unfoldable pub weightedSum : List ℕ → ℕ
+unfolding sumTo
+weightedSum s = sumTo (length s) (λ i. getD s i 0 * (i + 1)) % 65521
+
+-- 1 to 3
+abbrev pub frameChecks : ℕ → List ℕ → List Check
+frameChecks blocks s =
+    check (eqb (length s) 512) number.noBlock
+    ∷ check (hasTag s) number.noBlock
+    ∷ check (eqb (le 2 (drop 508 s)) (plainSum (take 508 s))) number.checkSum
+    ∷ check (eqb (le 2 (drop 510 s)) (weightedSum (take 508 s))) number.checkSum
+    ∷ check (within 1 3 (blockKind s)) number.blockNumber
+    ∷ check (eqb (le 2 (drop 6 s)) blocks) number.blockNumber
+    ∷ []

@@ -1,0 +1,85 @@
+// A block's frame: its tag, its check sums, its kind and its number.
+ghost use mathlib.Core.Path.{_≡_};
+ghost use Prim.Native.Nat.{_≤_};
+ghost use lib.ListN.{length};
+ghost use Rattle.amounts.specs.Decline.{checked};
+ghost use Rattle.layout.specs.Verdict.{verdictOf};
+ghost use Rattle.layout.specs.Frame.{hasTag, plainSum, weightedSum, frameChecks};
+use crate::bytes;
+use crate::setup;
+use crate::verdict;
+use crate::verdict::Verdict;
+use amounts::decline;
+
+// The sum of bytes, and of each byte times its place from 1, both modulo 65,521.
+pub struct CheckSums {
+    pub plain: u16,
+    pub weighted: u16,
+}
+
+fn has_tag(s: &[u8]) -> bool
+    ensures { λ r. ⌜ r ≡ hasTag (now (s .entry)) ⌝ }
+{
+    if bytes::byte_at(s, 0) != b'P' {
+        return false;
+    }
+    if bytes::byte_at(s, 1) != b'R' {
+        return false;
+    }
+    if bytes::byte_at(s, 2) != b'T' {
+        return false;
+    }
+    bytes::byte_at(s, 3) == b'R'
+}
+
+fn check_sums(s: &[u8]) -> CheckSums
+    requires { ⌜ length (now s) ≤ 512 ⌝ }
+    ensures { λ r. ⌜ r ≡ record { plain = plainSum (now (s .entry)); weighted = weightedSum (now (s .entry)) } ⌝ }
+{
+    let mut plain: u32 = 0;
+    let mut weighted: u32 = 0;
+    let mut i: usize = 0;
+    while i < s.len() {
+        let x = wide(s[i]);
+        let place = i as u16 + 1;
+        plain += x;
+        weighted += x * (place as u32);
+        i += 1;
+    }
+    CheckSums {
+        plain: (plain % 65521) as u16,
+        weighted: (weighted % 65521) as u16,
+    }
+}
+
+fn wide(x: u8) -> u32
+    ensures { λ r. ⌜ r ≡ x ⌝ }
+{
+    x as u32
+}
+
+// Declines 1 to 3. The check sums, which are dear, are those of a block by its length and tag.
+pub fn check_frame(number: u32, s: &[u8]) -> Verdict
+    ensures { λ r. ⌜ r ≡ verdictOf (checked (frameChecks number (now (s .entry))) (tt {0})) ⌝ }
+{
+    if s.len() != 512 {
+        return Verdict::Declined(decline::NO_BLOCK);
+    }
+    if !has_tag(s) {
+        return Verdict::Declined(decline::NO_BLOCK);
+    }
+    let sums = check_sums(&s[..508]);
+    let own = bytes::le16(s, 6) as u32;
+    let next = verdict::row(own == number, decline::NUMBER, Verdict::Accepted);
+    let kind = verdict::row(setup::is_within(1, 3, s[4]), decline::NUMBER, next);
+    let weighted = verdict::row(
+        bytes::le16(s, 510) == sums.weighted,
+        decline::CHECK_SUM,
+        kind,
+    );
+    verdict::row(
+        bytes::le16(s, 508) == sums.plain,
+        decline::CHECK_SUM,
+        weighted,
+    )
+}

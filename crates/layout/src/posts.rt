@@ -1,0 +1,27 @@
+// Kind 3: what a block's own bytes say of its posts, and their limits.
+ghost use mathlib.Core.Path.{_≡_};
+ghost use Rattle.amounts.specs.Decline.{checked};
+ghost use Rattle.layout.specs.Verdict.{verdictOf};
+ghost use Rattle.layout.specs.Posts.{ownChecks};
+use crate::bytes;
+use crate::outline;
+use crate::outline::Outline;
+use crate::setup;
+use crate::verdict;
+use crate::verdict::Verdict;
+use amounts::decline;
+
+// The bytes of a post.
+pub const POST_SIZE: usize = 48;
+
+// Whether a kind 3 block's own bytes are in their turn and within their limits, by the outline and whether the book is closed.
+pub fn check_posts(o: Outline, closed: bool, count: u8, body: &[u8]) -> Verdict
+    ensures { λ r. ⌜ r ≡ verdictOf (checked (ownChecks o closed count (now (body .entry))) (tt {0})) ⌝ }
+{
+    let end = bytes::is_zero(body, (count as usize) * POST_SIZE, body.len());
+    let zeros = verdict::row(end, decline::LAYOUT, Verdict::Accepted);
+    let posts = verdict::row(setup::is_within(1, 10, count), decline::LAYOUT, zeros);
+    let long = verdict::row(body.len() == 500, decline::LAYOUT, posts);
+    let open = verdict::row(!closed, decline::CLOSED, long);
+    verdict::row(outline::may_post(o), decline::TURN, open)
+}
