@@ -58,10 +58,6 @@ unfolding checked
 vapourOf form number w u p q =
     onTaken (checked (vapourChecks form number w u p q) (formAt form w u p q)) (λ f. lossOf f (rowOf number))
 
-unfoldable pub lossOver : ℕ → Answer CoefficientRow → Float → Float → Float → Float → Answer ℕ
-unfolding checked
-lossOver form found w u p q = onTaken (checked (formChecks form w u p q) (formAt form w u p q)) (λ f. lossOf f found)
-
 -- what each case of the code's answers stands for
 abbrev pub kgAnswer : Kg → Answer Float
 kgAnswer (kg.Value x) = taken x

@@ -2,7 +2,7 @@
 ghost use mathlib.Core.Path.{_≡_};
 ghost use Rattle.amounts.specs.Binary64.{valueOf};
 ghost use Rattle.amounts.specs.Coefficient as coefficients;
-ghost use Rattle.amounts.specs.Loss.{floatingRoofKg, fixedRoofKg, stationKg, kgOf, weighedOf, lossOf, lossOver, vapourOf, kgAnswer, answer};
+ghost use Rattle.amounts.specs.Loss.{floatingRoofKg, fixedRoofKg, stationKg, kgOf, weighedOf, lossOf, vapourOf, kgAnswer, answer};
 use crate::coefficient;
 use crate::coefficient::CoefficientRow;
 use crate::coefficient::Found;
@@ -122,15 +122,6 @@ pub fn vapour_loss(form: u8, number: u16, w: u64, u: u64, p: u64, q: u64) -> Los
     }
     match form::read_form(form, w, u, p, q) {
         FormRead::Form(f) => loss_by(f, number),
-        FormRead::Declined(d) => Loss::Declined(d),
-    }
-}
-
-pub fn loss_over(form: u8, found: Found, w: u64, u: u64, p: u64, q: u64) -> Loss
-    ensures { λ r. ⌜ answer r ≡ lossOver form (coefficients.answer found) (valueOf w) (valueOf u) (valueOf p) (valueOf q) ⌝ }
-{
-    match form::read_form(form, w, u, p, q) {
-        FormRead::Form(f) => loss_of(f, found),
         FormRead::Declined(d) => Loss::Declined(d),
     }
 }

@@ -1,7 +1,7 @@
 // Floats from bit patterns that nobody vouches for.
 ghost use mathlib.Core.Path.{_≡_};
-ghost use Rattle.amounts.specs.Binary64.{valueOf, whole};
-ghost use Rattle.amounts.specs.Pattern.{readingOf, inRange, answer};
+ghost use Rattle.amounts.specs.Binary64.{valueOf};
+ghost use Rattle.amounts.specs.Pattern.{readingOf, answer};
 use crate::decline;
 use crate::decline::Decline;
 
@@ -31,13 +31,4 @@ pub fn read_float(bits: u64, range: Range) -> FloatRead
         }
     }
     FloatRead::Declined(decline::RANGE)
-}
-
-pub fn is_zero(bits: u64) -> bool
-    ensures { λ r. ⌜ r ≡ inRange (record { low = whole 0; high = whole 0 }) (valueOf bits) ⌝ }
-{
-    let FloatRead::Value(x) = read_float(bits, Range { low: 0.0, high: 0.0 }) else {
-        return false;
-    };
-    x <= 0.0
 }

@@ -1,61 +1,55 @@
--- Kind 3: the posts of a block (document 01, "Journal blocks" and "Why a call is declined, in checking order"). The body is the block's bytes 8 to 507.
-use Prim.Native.Nat.{ℕ, zero, suc, _+_, _*_}
-use mathlib.Core.Bool.{Bool, not}
+-- Posts on a year, one by one and as a block of them (document 01, "Journal blocks" and "Why a call is declined, in checking order", 4 to 11).
+use Prim.Native.Nat.{ℕ, zero, suc}
+use mathlib.Core.Bool.{Bool, not, _||_}
 use mathlib.Core.List.{List, [], _∷_}
-use lib.Dec.{eqb}
-use lib.ListN.{length, take, drop}
+use lib.Dec.{ltb}
 use Rattle.amounts.specs.Decline as number
 use Rattle.amounts.specs.Decline.{Answer, taken, Check, check, checked, onTaken}
-use Rattle.layout.specs.Bytes.{allZero}
 use Rattle.layout.specs.Outline.{mayPost}
-use Rattle.layout.specs.Setup.{within}
-use Rattle.layout.specs.declared.outline.Outline.{Outline}
-use Rattle.book.specs.Posting.{postOn}
+use Rattle.layout.specs.Posts.{postIn, ownChecks}
+use Rattle.layout.specs.declared.setup.Setup.{Setup}
+use Rattle.post.specs.Moves.{moveAt}
+use Rattle.post.specs.declared.moves.Move.{Move}
+use Rattle.book.specs.Entry.{isThere, closes, yearAfter}
+use Rattle.book.specs.Site.{bookWith}
 use Rattle.book.specs.declared.site.Book.{Book}
+use Rattle.book.specs.declared.site.Year.{Year}
 
--- the ith of the parts of a size that bytes are made of, from 0
-abbrev pub partOf : ℕ → List ℕ → ℕ → List ℕ
-partOf size s i = take size (drop (i * size) s)
+-- 4 and 5
+abbrev pub turnChecks : Setup → Year → List Check
+turnChecks u y = check (mayPost (u .outline)) number.turn ∷ check (not (y .closed)) number.closed ∷ []
 
--- the post at a place of the body, from 0
-abbrev pub postIn : List ℕ → ℕ → List ℕ
-postIn body = partOf 48 body
+-- 10: "4,000 posts are accepted and this isn't the close"
+abbrev pub hasRoom : ℕ → Move → Bool
+hasRoom posts m = closes m || ltb posts 4000
 
--- "its posts are tried in turn, each from 5 on the book the earlier ones left": the first n of them, and the first decline is theirs. 4 holds of each, since posts leave the set-up as it is.
-unfoldable pub takenTo : Book → (ℕ → List ℕ) → ℕ → Answer Book
+-- 10 and 11
+abbrev pub roomChecks : Year → Move → List Check
+roomChecks y m = check (hasRoom (y .posts) m) number.full ∷ check (isThere (y .store) (y .sums) m) number.short ∷ []
+
+-- what a move that passed 4 to 9 makes of a year
+unfoldable pub entered : Setup → Year → Move → Answer Year
+unfolding checked
+entered u y m = checked (roomChecks y m) (yearAfter u y m)
+
+-- a post: 4 and 5, then 6 to 9 of its bytes, then 10 and 11
+unfoldable pub postOn : Setup → Year → List ℕ → Answer Year
+unfolding checked moveAt entered
+postOn u y s = onTaken (checked (turnChecks u y) s) (λ s. onTaken (moveAt (u .outline) (u .numbers) s) (entered u y))
+
+-- "its posts are tried in turn, each from 5 on the book the earlier ones left": the first n of them, and the first decline is theirs. 4 holds of each, since
+-- posts leave the set-up as it is.
+unfoldable pub takenTo : Setup → Year → (ℕ → List ℕ) → ℕ → Answer Year
 unfolding postOn
-takenTo b posts zero = taken b
-takenTo b posts (suc n) = onTaken (takenTo b posts n) (λ c. postOn c (posts n))
-
--- a book with so many blocks counted
-abbrev pub numbered : ℕ → Book → Book
-numbered blocks b =
-    record {
-      setup = b .setup;
-      store = b .store;
-      sums = b .sums;
-      handled = b .handled;
-      posts = b .posts;
-      blocks = blocks;
-      closed = b .closed;
-    }
-
--- what a run of n posts makes of a book, and the blocks that it then counts
-abbrev pub runOn : Book → (ℕ → List ℕ) → ℕ → ℕ → Answer Book
-runOn b posts n blocks = onTaken (takenTo b posts n) (λ c. taken (numbered blocks c))
-
--- 4, 5 and 6 of the block's own bytes: "Count: posts, 1–10, from byte 8", and zero behind the last post
-abbrev pub ownChecks : Outline → Bool → ℕ → List ℕ → List Check
-ownChecks o closed count body =
-    check (mayPost o) number.turn
-    ∷ check (not closed) number.closed
-    ∷ check (eqb (length body) 500) number.layout
-    ∷ check (within 1 10 count) number.layout
-    ∷ check (allZero (drop (count * 48) body)) number.layout
-    ∷ []
+takenTo u y posts zero = taken y
+takenTo u y posts (suc n) = onTaken (takenTo u y posts n) (λ z. postOn u z (posts n))
 
 -- "A block is taken whole or not at all."
-unfoldable pub postsOn : Book → ℕ → List ℕ → Answer Book
+unfoldable pub postsOn : Setup → Year → ℕ → List ℕ → Answer Year
 unfolding checked takenTo
-postsOn b count body =
-    onTaken (checked (ownChecks (b .setup .outline) (b .closed) count body) count) (λ n. runOn b (postIn body) n (b .blocks + 1))
+postsOn u y count body = onTaken (checked (ownChecks (u .outline) (y .closed) count body) count) (takenTo u y (postIn body))
+
+-- a single post on a book: "A single post is tried from decline 4 on and doesn't alter the block number."
+unfoldable pub singleOn : Book → List ℕ → Answer Book
+unfolding postOn
+singleOn b s = onTaken (postOn (b .setup) (b .year) s) (λ y. taken (bookWith (b .setup) y (b .blocks)))

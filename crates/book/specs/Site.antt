@@ -1,17 +1,18 @@
 -- The fresh book, what a book holds of a substance, and what is true of every book.
-use Prim.Native.Nat.{ℕ, _+_, _*_, _^_, _≤_, _<_, min}
+use Prim.Native.Nat.{ℕ, _+_, _*_, _^_, _≤_, _<_}
 use mathlib.Core.Path.{_≡_}
 use mathlib.Core.Bool.{true, false}
 use mathlib.Core.List.{List}
 use lib.ListN.{length, getD, replicate}
-use Rattle.layout.specs.Setup.{noRates}
-use Rattle.layout.specs.Outline.{mayPost}
 use Rattle.layout.specs.Each.{sumTo}
+use Rattle.layout.specs.Outline.{mayPost}
+use Rattle.layout.specs.Setup.{noRates}
 use Rattle.layout.specs.declared.outline.Outline.{Outline}
 use Rattle.layout.specs.declared.setup.Rates.{Rates}
 use Rattle.layout.specs.declared.setup.Setup.{Setup}
 use Rattle.book.specs.Ledger.{brings, total}
 use Rattle.book.specs.declared.site.Book.{Book}
+use Rattle.book.specs.declared.site.Year.{Year}
 
 abbrev pub freshOutline : Outline
 freshOutline = record { substances = 0; materials = 0; stages = 0; described = 0 }
@@ -25,32 +26,30 @@ freshSetup =
       counted = replicate 96 0;
       «water_to» = replicate 8 0;
       «residue_to» = replicate 8 0;
+      sides = replicate 64 0;
       rates = replicate 64 noRates;
     }
 
+abbrev pub freshYear : Year
+freshYear = record { store = replicate 12 0; sums = replicate 576 0; handled = replicate 8 0; posts = 0; closed = false }
+
+abbrev pub bookWith : Setup → Year → ℕ → Book
+bookWith setup year blocks = record { setup = setup; year = year; blocks = blocks }
+
 -- "a fresh book, which is as made: no set-up, no substance, no post, block number 0"
 abbrev pub freshBook : Book
-freshBook =
-    record {
-      setup = freshSetup;
-      store = replicate 12 0;
-      sums = replicate 576 0;
-      handled = replicate 8 0;
-      posts = 0;
-      blocks = 0;
-      closed = false;
-    }
+freshBook = bookWith freshSetup freshYear 0
 
 -- "store grams times counted content", over the first k materials
 abbrev pub storedTo : List ℕ → List ℕ → ℕ → ℕ → ℕ
 storedTo store counted s k = sumTo k (λ m. brings counted m (getD store m 0) s)
 
-abbrev pub stored : Book → ℕ → ℕ
-stored b s = storedTo (b .store) (b .setup .counted) s 12
+abbrev pub stored : Setup → Year → ℕ → ℕ
+stored u y s = storedTo (y .store) (u .counted) s 12
 
--- what a book holds of a substance, in store and out of it
-abbrev pub inBook : Book → ℕ → ℕ
-inBook b s = total (b .sums) s + stored b s
+-- what a year holds of a substance, in store and out of it
+abbrev pub inYear : Setup → Year → ℕ → ℕ
+inYear u y s = total (y .sums) s + stored u y s
 
 -- "to 1,000,000"
 pub record Rated (r : Rates) : Type 0 where
@@ -69,20 +68,25 @@ pub record SoundSetup (u : Setup) : Type 0 where
   pub counted-small : (i : ℕ) → getD (u .counted) i 0 ≤ 1000000
   pub rated : (pair : ℕ) → Rated (getD (u .rates) pair noRates)
   pub rates-long : length (u .rates) ≡ 64
+  pub sides-long : length (u .sides) ≡ 64
   pub water-long : length (u .«water_to») ≡ 8
   pub residue-long : length (u .«residue_to») ≡ 8
 
 -- A post brings in at most 2×10^15 micrograms of a substance, so that no sum can pass 64 bits. The close is the post past 4,000.
+pub record SoundYear (u : Setup) (y : Year) : Type 0 where
+  pub store-long : length (y .store) ≡ 12
+  pub sums-long : length (y .sums) ≡ 576
+  pub handled-long : length (y .handled) ≡ 8
+  pub posts-few : y .posts ≤ 4001
+  pub while-open : y .closed ≡ false → y .posts ≤ 4000
+  pub none-before : mayPost (u .outline) ≡ false → y .posts ≡ 0
+  pub bounded : (s : ℕ) → s < 8 → inYear u y s ≤ 2 * 10 ^ 15 * y .posts
+  pub stores : (m : ℕ) → m < 12 → getD (y .store) m 0 ≤ 2 * 10 ^ 9 * y .posts
+  -- what was handled is what the ledger holds: the one is added up as it comes in, the other is where it went
+  pub weighed : (s : ℕ) → s < 8 → getD (y .handled) s 0 ≡ total (y .sums) s
+
+-- a block number has 16 bits, so that after 65,536 blocks none is the next
 pub record Sound (b : Book) : Type 0 where
   pub setup : SoundSetup (b .setup)
-  pub store-long : length (b .store) ≡ 12
-  pub sums-long : length (b .sums) ≡ 576
-  pub handled-long : length (b .handled) ≡ 8
-  pub posts-few : b .posts ≤ 4001
-  pub while-open : b .closed ≡ false → b .posts ≤ 4000
-  pub none-before : mayPost (b .setup .outline) ≡ false → b .posts ≡ 0
-  pub blocks-few : b .blocks ≤ min (b .setup .outline .substances) 1 + b .setup .outline .described + b .posts
-  pub bounded : (s : ℕ) → s < 8 → inBook b s ≤ 2 * 10 ^ 15 * b .posts
-  pub stores : (m : ℕ) → m < 12 → getD (b .store) m 0 ≤ 2 * 10 ^ 9 * b .posts
-  -- what was handled is what the ledger holds: the one is added up as it comes in, the other is where it went
-  pub weighed : (s : ℕ) → s < 8 → getD (b .handled) s 0 ≡ total (b .sums) s
+  pub year : SoundYear (b .setup) (b .year)
+  pub blocks-few : b .blocks ≤ 65536

@@ -1,13 +1,11 @@
--- Kind 2 on a book (document 01, "Journal blocks"): the set-up with its next stage described, and one block more.
+-- Kind 2 on a set-up (document 01, "Journal blocks"): its next stage described.
 use Prim.Native.Nat.{ℕ, _+_, _*_}
 use mathlib.Core.List.{List}
 use lib.ListN.{getD, drop, set}
 use Rattle.amounts.specs.Decline.{Answer, checked}
 use Rattle.layout.specs.Each.{putTo}
-use Rattle.layout.specs.Stage.{rateRow, stageChecks}
+use Rattle.layout.specs.Stage.{sideRow, rateRow, stageChecks}
 use Rattle.layout.specs.declared.setup.Setup.{Setup}
-use Rattle.book.specs.Setup.{withSetup}
-use Rattle.book.specs.declared.site.Book.{Book}
 
 -- the set-up with its next stage described
 abbrev pub withStage : Setup → ℕ → List ℕ → Setup
@@ -25,9 +23,10 @@ withStage u stage body =
       counted = u .counted;
       «water_to» = set (u .«water_to») stage (getD body 0 0);
       «residue_to» = set (u .«residue_to») stage (getD body 1 0);
+      sides = putTo (λ i. stage * 8 + i) (sideRow (drop 2 body)) (u .sides) (u .outline .substances);
       rates = putTo (λ i. stage * 8 + i) (rateRow (drop 2 body)) (u .rates) (u .outline .substances);
     }
 
-unfoldable pub describedOn : Book → ℕ → List ℕ → Answer Book
+unfoldable pub describedOn : Setup → ℕ → List ℕ → Answer Setup
 unfolding checked
-describedOn b stage body = checked (stageChecks (b .setup .outline) stage body) (withSetup b (withStage (b .setup) stage body))
+describedOn u stage body = checked (stageChecks (u .outline) stage body) (withStage u stage body)

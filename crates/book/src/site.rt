@@ -1,23 +1,27 @@
-// The book of a site, by value: what the set-up says, and what the posts have come to.
+// The book of a site, by value: its set-up, its year, which posts change, and its count of blocks.
 ghost use mathlib.Core.Path.{_≡_};
 ghost use Rattle.book.specs.Site.{freshSetup, freshBook, Sound};
 use layout::outline::Outline;
 use layout::setup::NO_RATES;
 use layout::setup::Setup;
 
-// The store in grams by material; the ledger's sums in micrograms, at account * 64 + stage * 8 + substance; and what was
-// handled of each substance.
-pub struct Book {
-    pub(crate) setup: Setup,
-    pub(crate) store: [u64; 12],
-    pub(crate) sums: [u64; 576],
-    pub(crate) handled: [u64; 8],
-    pub(crate) posts: u32,
-    pub(crate) blocks: u32,
-    pub(crate) closed: bool,
+// The store in grams by material; the ledger's sums in micrograms, at account * 64 + stage * 8 + substance; what was handled of each
+// substance; the posts accepted; and whether the close is among them.
+pub struct Year {
+    pub store: [u64; 12],
+    pub sums: [u64; 576],
+    pub handled: [u64; 8],
+    pub posts: u32,
+    pub closed: bool,
 }
 
-fn fresh_setup() -> Setup
+pub struct Book {
+    pub(crate) setup: Setup,
+    pub(crate) year: Year,
+    pub(crate) blocks: u32,
+}
+
+pub(crate) fn fresh_setup() -> Setup
     ensures { λ r. ⌜ r ≡ freshSetup ⌝ }
 {
     Setup {
@@ -32,6 +36,7 @@ fn fresh_setup() -> Setup
         counted: [0; 96],
         water_to: [0; 8],
         residue_to: [0; 8],
+        sides: [0; 64],
         rates: [NO_RATES; 64],
     }
 }
@@ -42,12 +47,14 @@ pub fn fresh() -> Book
 {
     Book {
         setup: fresh_setup(),
-        store: [0; 12],
-        sums: [0; 576],
-        handled: [0; 8],
-        posts: 0,
+        year: Year {
+            store: [0; 12],
+            sums: [0; 576],
+            handled: [0; 8],
+            posts: 0,
+            closed: false,
+        },
         blocks: 0,
-        closed: false,
     }
 }
 
@@ -56,4 +63,16 @@ pub fn block_number(b: Book) -> u32
     ensures { λ r. ⌜ r ≡ b .blocks ⌝ }
 {
     b.blocks
+}
+
+pub fn setup_of(b: Book) -> Setup
+    ensures { λ r. ⌜ r ≡ b .setup ⌝ }
+{
+    b.setup
+}
+
+pub fn year_of(b: Book) -> Year
+    ensures { λ r. ⌜ r ≡ b .year ⌝ }
+{
+    b.year
 }

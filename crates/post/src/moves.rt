@@ -1,7 +1,9 @@
 // What a post does is one value, a move.
 ghost use mathlib.Core.Path.{_≡_};
+ghost use mathlib.Core.List.{[], _∷_};
 ghost use Prim.Native.Nat.{_*_, _^_, _<_};
 ghost use lib.ListN.{getD};
+ghost use Rattle.amounts.specs.Decline.{check, checked, range};
 ghost use Rattle.amounts.specs.Loss as losses;
 ghost use Rattle.post.specs.Moves.{floatsUnused, measured, moveOf, moveAt, answer};
 use crate::fields;
@@ -75,21 +77,28 @@ fn number_at(numbers: &[u16; 8], place: u8) -> u16
     numbers[place as usize]
 }
 
+// An amount where no float is used.
+fn stated(p: Post, n: u64) -> Loss
+    ensures { λ r. ⌜ losses.answer r ≡ checked (check (floatsUnused p) range ∷ []) n ⌝ }
+{
+    if has_no_floats(p) {
+        return Loss::Micrograms(n);
+    }
+    Loss::Declined(decline::RANGE)
+}
+
 fn measure(m: Measure, numbers: &[u16; 8], p: Post) -> Loss
     requires { ⌜ p .quantity * p .content < 2 ^ 64 ⌝ }
     ensures { λ r. ⌜ losses.answer r ≡ measured m (now (numbers .entry)) p ⌝ }
 {
-    if let Measure::Loss = m {
-        let found = coefficient::row_of(number_at(numbers, p.substance));
-        return loss::loss_over(p.material, found, p.w, p.u, p.p, p.q);
+    match m {
+        Measure::Quantity => stated(p, p.quantity),
+        Measure::Content => stated(p, p.quantity * (p.content as u64)),
+        Measure::Loss => {
+            let found = coefficient::row_of(number_at(numbers, p.substance));
+            loss::loss_over(p.material, found, p.w, p.u, p.p, p.q)
+        }
     }
-    if !has_no_floats(p) {
-        return Loss::Declined(decline::RANGE);
-    }
-    if let Measure::Content = m {
-        return Loss::Micrograms(p.quantity * (p.content as u64));
-    }
-    Loss::Micrograms(p.quantity)
 }
 
 fn move_of(does: Does, p: Post, n: u64) -> Move

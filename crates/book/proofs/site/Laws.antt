@@ -1,7 +1,7 @@
 -- What keeps a book sound. Assumes nothing.
 use mathlib.Core.Path.{_≡_, refl, sym, _∙_}
 use mathlib.Core.List.{List}
-use Prim.Native.Nat.{ℕ, zero, suc, _+_, _*_, _≤_, _<_, min}
+use Prim.Native.Nat.{ℕ, zero, suc, _+_, _*_, _≤_, _<_}
 use native.Mathlib.Nat.{zero-mul}
 use native.Mathlib.Omega.{arith}
 use lib.ListN.{getD, replicate, length-replicate}
@@ -10,9 +10,8 @@ use Rattle.layout.specs.Setup.{noRates}
 use Rattle.layout.specs.declared.setup.Setup.{Setup}
 use Rattle.layout.proofs.Each.{sum-none}
 use Rattle.book.specs.Ledger.{total, cellOf}
-use Rattle.book.specs.Setup.{withSetup}
-use Rattle.book.specs.Site.{Sound, SoundSetup, Rated, freshBook, storedTo}
-use Rattle.book.specs.declared.site.Book.{Book}
+use Rattle.book.specs.Site.{Sound, SoundSetup, SoundYear, Rated, freshBook, storedTo}
+use Rattle.book.specs.declared.site.Year.{Year}
 
 -- each place of a list of one value has it
 pub same-at : {A : Type 0} (n i : ℕ) (a : A) → getD (replicate n a) i a ≡ a
@@ -52,39 +51,39 @@ sound-fresh =
             counted-small = λ i. omega (arith, same-at {A = ℕ} 96 i 0);
             rated = none-rated 64;
             rates-long = length-replicate 64 noRates;
+            sides-long = length-replicate {A = ℕ} 64 0;
             water-long = length-replicate {A = ℕ} 8 0;
             residue-long = length-replicate {A = ℕ} 8 0;
           };
-      store-long = length-replicate {A = ℕ} 12 0;
-      sums-long = length-replicate {A = ℕ} 576 0;
-      handled-long = length-replicate {A = ℕ} 8 0;
-      posts-few = omega arith;
-      while-open = λ e. omega arith;
-      none-before = λ e. refl;
+      year =
+          record {
+            store-long = length-replicate {A = ℕ} 12 0;
+            sums-long = length-replicate {A = ℕ} 576 0;
+            handled-long = length-replicate {A = ℕ} 8 0;
+            posts-few = omega arith;
+            while-open = λ e. omega arith;
+            none-before = λ e. refl;
+            bounded = λ s h. omega (arith, total-none 576 s, stored-none (replicate 12 0) (replicate 96 0) s (λ m l. same-at {A = ℕ} 12 m 0));
+            stores = λ m h. omega (arith, same-at {A = ℕ} 12 m 0);
+            weighed = λ s h. same-at {A = ℕ} 8 s 0 ∙ sym (total-none 576 s);
+          };
       blocks-few = omega arith;
-      bounded = λ s h. omega (arith, total-none 576 s, stored-none (replicate 12 0) (replicate 96 0) s (λ m l. same-at {A = ℕ} 12 m 0));
-      stores = λ m h. omega (arith, same-at {A = ℕ} 12 m 0);
-      weighed = λ s h. same-at {A = ℕ} 8 s 0 ∙ sym (total-none 576 s);
     }
 
--- A set-up block taken before any post: the bounds by the number of posts say that nothing is in store or in the ledger yet.
-pub sound-setup : (b : Book) (u : Setup) → Sound b → b .posts ≡ 0 → SoundSetup u
-    → b .blocks + 1 ≤ min (u .outline .substances) 1 + u .outline .described
-    → Sound (withSetup b u)
-sound-setup b u h none su few =
+-- A set-up taken before any post: the bounds by the number of posts say that nothing is in store or in the ledger yet.
+pub sound-before : (u v : Setup) (y : Year) → SoundYear u y → y .posts ≡ 0 → SoundYear v y
+sound-before u v y h none =
     record {
-      setup = su;
       store-long = h .store-long;
       sums-long = h .sums-long;
       handled-long = h .handled-long;
       posts-few = h .posts-few;
       while-open = h .while-open;
       none-before = λ e. none;
-      blocks-few = omega arith;
-      bounded = λ s l. omega (arith, h .bounded s l, stored-none (b .store) (u .counted) s empty);
+      bounded = λ s l. omega (arith, h .bounded s l, stored-none (y .store) (v .counted) s empty);
       stores = h .stores;
       weighed = h .weighed;
     }
   where
-    empty : (m : ℕ) → m < 12 → getD (b .store) m 0 ≡ 0
+    empty : (m : ℕ) → m < 12 → getD (y .store) m 0 ≡ 0
     empty m l = omega (arith, h .stores m l)

@@ -1,17 +1,26 @@
 -- What the table of kinds tells. Assumes nothing.
 use mathlib.Core.Path.{_≡_, refl, sym, subst, ap, _∙_}
-use mathlib.Core.Bool.{Bool, true, _&&_}
+use mathlib.Core.Bool.{Bool, true, false, _&&_}
 use mathlib.Core.List.{List, [], _∷_}
-use Prim.Native.Nat.{ℕ, _≤_, _<_}
+use Prim.Native.Nat.{ℕ, _*_, _≤_, _<_}
+use native.Mathlib.Nat.{mul-le-mul}
 use native.Mathlib.Omega.{arith}
-use borrow.Author.Tests.{ne-eqb}
+use borrow.Author.Tests.{ltb-true, ne-eqb}
+use lib.Dec.{eqb, leb, ltb}
 use Rattle.amounts.specs.Decline.{Answer, taken, declined, layout}
 use Rattle.layout.specs.Setup.{within}
 use Rattle.layout.specs.declared.outline.Outline.{Outline}
 use Rattle.layout.proofs.Each.{and-true}
 use Rattle.layout.proofs.setup.Laws.{within-true}
-use Rattle.post.specs.Kind.{Row, rows, find, kindOf, limited}
+use Rattle.post.specs.Kind.{Row, below, contents, grams, micrograms, inSpan, fieldsFit, rows, rowIf, find, kindOf, limited}
+use Rattle.post.specs.declared.fields.Post.{Post}
+use Rattle.post.specs.declared.kind.Does.{Does}
+use Rattle.post.specs.declared.kind.Does.the-variants.{Receives, Issues, Brings, Leaves, Closes}
 use Rattle.post.specs.declared.kind.Kind.{Kind}
+use Rattle.post.specs.declared.kind.Limits.{Limits}
+use Rattle.post.specs.declared.kind.Measure.{Measure}
+use Rattle.post.specs.declared.kind.Measure.the-variants.{Quantity, Content, Loss}
+use Rattle.post.specs.declared.kind.Span.{Span}
 
 -- ---- looking a kind up
 
@@ -36,3 +45,110 @@ missing n (r ∷ rs) h t =
 pub unknown : (o : Outline) (n : ℕ) → (1 ≤ n → 13 < n) → declined 6 ≡ limited o (kindOf n)
 unfolding kindOf rows
 unknown o n h = rw (missing n rows h refl)
+
+-- a number that has none is refused by 6 alone
+pub only-six : (n m : ℕ) → kindOf n ≡ declined m → m ≡ layout
+unfolding kindOf
+only-six n m e = go rows e
+  where
+    pick : (t : Bool) (r : Row) (x : Answer Row) → (x ≡ declined m → m ≡ layout) → rowIf t r x ≡ declined m → m ≡ layout
+    pick true r x h f = let z : _≡_ {A = ℕ} 0 1 = cc in absurd (omega arith)
+    pick false r x h f = h f
+
+    go : (rs : List Row) → find n rs ≡ declined m → m ≡ layout
+    unfolding find
+    go [] f = cc
+    go (r ∷ rs) f = pick (eqb (r .number) n) r (find n rs) (go rs) f
+
+-- ---- what the limits of a row tell of what it does
+
+-- an amount of a substance is at most 2×10^15 micrograms
+abbrev pub Amounts : Measure → Limits → Type 0
+Amounts Quantity l = l .quantity ≡ micrograms
+Amounts Content l = (l .content ≡ contents) × (l .quantity ≡ grams)
+Amounts Loss l = Unit
+
+-- of a material it is in grams
+abbrev pub Stocks : Measure → Limits → Type 0
+Stocks Quantity l = l .quantity ≡ grams
+Stocks Content l = ⊥
+Stocks Loss l = ⊥
+
+abbrev Pairs : Outline → ℕ → Measure → Limits → Type 0
+Pairs o account m l = (account < 9) × ((l .stage ≡ below (o .stages)) × ((l .substance ≡ below (o .substances)) × Amounts m l))
+
+-- a row limits the fields that it uses
+abbrev pub Well : Outline → Does → Measure → Limits → Type 0
+Well o Receives m l = (l .material ≡ below (o .materials)) × Stocks m l
+Well o Issues m l = (l .material ≡ below (o .materials)) × ((l .stage ≡ below (o .stages)) × Stocks m l)
+Well o (Brings account) m l = Pairs o account m l
+Well o (Leaves account) m l = Pairs o account m l
+Well o Closes m l = m ≡ Quantity
+
+abbrev AllWell : Outline → List Row → Type 0
+AllWell o [] = Unit
+AllWell o (r ∷ rs) = Well o (r .does) (r .measure) (r .limits o) × AllWell o rs
+
+all-well : (o : Outline) → AllWell o rows
+unfolding rows
+all-well o =
+    ((refl, refl),
+    ((refl, refl),
+    ((refl, (refl, refl)),
+    ((omega arith, (refl, (refl, refl))),
+    ((omega arith, (refl, (refl, (refl, refl)))),
+    ((omega arith, (refl, (refl, (refl, refl)))),
+    ((omega arith, (refl, (refl, (refl, refl)))),
+    ((omega arith, (refl, (refl, (refl, refl)))),
+    ((omega arith, (refl, (refl, (refl, refl)))),
+    ((omega arith, (refl, (refl, (refl, refl)))),
+    ((omega arith, (refl, (refl, (refl, refl)))),
+    ((omega arith, (refl, (refl, tt))),
+    (refl, tt)))))))))))))
+
+pub well : (o : Outline) (n : ℕ) (r : Row) → kindOf n ≡ taken r → Well o (r .does) (r .measure) (r .limits o)
+unfolding kindOf
+well o n r e = go rows (all-well o) e
+  where
+    pick : (t : Bool) (q : Row) (x : Answer Row) → Well o (q .does) (q .measure) (q .limits o) → (x ≡ taken r → Well o (r .does) (r .measure) (r .limits o)) → rowIf t q x ≡ taken r
+        → Well o (r .does) (r .measure) (r .limits o)
+    pick true q x w h f = let same : q ≡ r = cc in subst (λ (i : Row). Well o (i .does) (i .measure) (i .limits o)) same w
+    pick false q x w h f = h f
+
+    go : (rs : List Row) → AllWell o rs → find n rs ≡ taken r → Well o (r .does) (r .measure) (r .limits o)
+    unfolding find
+    go [] w f = let z : _≡_ {A = ℕ} 0 1 = cc in absurd (omega arith)
+    go (q ∷ rs) w f = pick (eqb (q .number) n) q (find n rs) (w .0) (go rs (w .1)) f
+
+-- each field is below the end of its limits
+pub record Under (l : Limits) (p : Post) : Type 0 where
+  pub material : p .material < l .material .end
+  pub stage : p .stage < l .stage .end
+  pub substance : p .substance < l .substance .end
+  pub content : p .content < l .content .end
+  pub quantity : p .quantity < l .quantity .end
+
+in-span : (span : Span) (n : ℕ) → inSpan span n ≡ true → n < span .end
+in-span span n e = ltb-true n (span .end) (and-true (leb (span .from) n) (ltb n (span .end)) e .1)
+
+pub under : (l : Limits) (p : Post) → fieldsFit l p ≡ true → Under l p
+under l p e =
+    let a = and-true (inSpan (l .material) (p .material)) _ e in
+    let b = and-true (inSpan (l .stage) (p .stage)) _ (a .1) in
+    let c = and-true (inSpan (l .substance) (p .substance)) _ (b .1) in
+    let d = and-true (inSpan (l .content) (p .content)) _ (c .1) in
+    record {
+      material = in-span (l .material) (p .material) (a .0);
+      stage = in-span (l .stage) (p .stage) (b .0);
+      substance = in-span (l .substance) (p .substance) (c .0);
+      content = in-span (l .content) (p .content) (d .0);
+      quantity = in-span (l .quantity) (p .quantity) (d .1);
+    }
+
+-- "g times content" is at most 2×10^15
+pub product-small : (q c : ℕ) → q < 2000000001 → c < 1000001 → q * c ≤ 2000000000000000
+product-small q c h g =
+    let a : q ≤ 2000000000 = omega arith in
+    let b : c ≤ 1000000 = omega arith in
+    let l : q * c ≤ 2000000000 * 1000000 = mul-le-mul a b in
+    omega arith

@@ -1,8 +1,6 @@
 use mathlib.Core.Path.{sym, ap, subst}
-use mathlib.Core.Bool.{false}
-use lib.ListN.{replicate}
 use Rattle.layout.specs.declared.setup.Setup.{Setup}
-use Rattle.book.specs.Site.{Sound}
+use Rattle.book.specs.Site.{Sound, bookWith, freshYear}
 use Rattle.book.specs.declared.site.Book.{Book}
 use Rattle.book.proofs.site.Laws.{sound-fresh}
 use borrow.Author.Needs.{needs}
@@ -13,7 +11,7 @@ fresh-setup-requires : tie.Need-fresh-setup-requires
 fresh-setup-requires c κs = search needs
 
 abbrev with-setup : Setup → Book
-with-setup u = record { setup = u; store = replicate 12 0; sums = replicate 576 0; handled = replicate 8 0; posts = 0; blocks = 0; closed = false }
+with-setup u = bookWith u freshYear 0
 
 returns : tie.Need-returns
 returns c =

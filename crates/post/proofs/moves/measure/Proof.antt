@@ -5,70 +5,75 @@ use Rattle.post.proofs.moves.measure.Reads as reads
 use Rattle.post.proofs.moves.measure.Lts as lts
 use Rattle.amounts.proofs.coefficient.row_of.Reads as row-of-reads
 use Rattle.amounts.proofs.loss.loss_over.Reads as loss-over-reads
-use Rattle.post.proofs.moves.has_no_floats.Reads as has-no-floats-reads
 use Rattle.post.proofs.moves.number_at.Reads as number-at-reads
+use Rattle.post.proofs.moves.stated.Reads as stated-reads
 
--- src/moves.rt:83:41
+-- src/moves.rt:95:30
 enum-told : tie.Need-enum-told
 enum-told c = search needs
 
--- src/moves.rt:83:41
-number-at-requires : tie.Need-number-at-requires
-number-at-requires c κs = search needs
+-- src/moves.rt:95:30
+stated-requires : tie.Need-stated-requires
+stated-requires c κs = search needs
 
--- src/moves.rt:83:13
-row-of-requires : tie.Need-row-of-requires
-row-of-requires c κs = search needs
-
--- src/moves.rt:84:9
-loss-over-requires : tie.Need-loss-over-requires
-loss-over-requires c κs = search needs
-
--- src/moves.rt:84:9
-returns : tie.Need-returns
-returns c = ?
-
--- src/moves.rt:86:9
-has-no-floats-requires : tie.Need-has-no-floats-requires
-has-no-floats-requires c κs = search needs
-
--- src/moves.rt:87:9
-returns-2 : tie.Need-returns-2
-returns-2 c = ?
-
--- src/moves.rt:90:47
+-- src/moves.rt:96:53
 enum-told-2 : tie.Need-enum-told-2
 enum-told-2 c = search needs
 
--- src/moves.rt:90:47
-cast-t9 : tie.Need-cast-t9
-cast-t9 c = search needs
+-- src/moves.rt:96:53
+cast-stated : tie.Need-cast-stated
+cast-stated c = search needs
 
--- src/moves.rt:90:33
-mul-t10 : tie.Need-mul-t10
-mul-t10 c = search needs
+-- src/moves.rt:96:39
+mul-stated : tie.Need-mul-stated
+mul-stated c = search needs
 
--- src/moves.rt:90:9
+-- src/moves.rt:96:29
+stated-requires-2 : tie.Need-stated-requires-2
+stated-requires-2 c κs = search needs
+
+-- src/moves.rt:98:45
+enum-told-3 : tie.Need-enum-told-3
+enum-told-3 c = search needs
+
+-- src/moves.rt:98:45
+number-at-requires : tie.Need-number-at-requires
+number-at-requires c κs = search needs
+
+-- src/moves.rt:98:17
+row-of-requires : tie.Need-row-of-requires
+row-of-requires c κs = search needs
+
+-- src/moves.rt:99:13
+loss-over-requires : tie.Need-loss-over-requires
+loss-over-requires c κs = search needs
+
+-- src/moves.rt:90:1
+returns : tie.Need-returns
+returns c = ?
+
+-- src/moves.rt:90:1
+returns-2 : tie.Need-returns-2
+returns-2 c = ?
+
+-- src/moves.rt:90:1
 returns-3 : tie.Need-returns-3
 returns-3 c = ?
-
--- src/moves.rt:78:1
-returns-4 : tie.Need-returns-4
-returns-4 c = ?
 
 pub measure-spec : {M : Type 1} → statement M
 measure-spec =
     tie.close
     (tie.spec
     enum-told
+    stated-requires
+    enum-told-2
+    cast-stated
+    mul-stated
+    stated-requires-2
+    enum-told-3
     number-at-requires
     row-of-requires
     loss-over-requires
     returns
-    has-no-floats-requires
     returns-2
-    enum-told-2
-    cast-t9
-    mul-t10
-    returns-3
-    returns-4)
+    returns-3)
