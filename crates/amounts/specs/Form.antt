@@ -4,11 +4,9 @@ use mathlib.Core.Bool.{Bool, _&&_, cond}
 use mathlib.Core.List.{List, [], _∷_}
 use lib.Dec.{eqb, leb}
 use lib.Ieee.{Float}
-use Rattle.amounts.specs.Binary64.{whole}
 use Rattle.amounts.specs.Decline as decline
 use Rattle.amounts.specs.Decline.{Answer, taken, declined, Check, check, checked, layout}
-use Rattle.amounts.specs.Pattern.{inRange}
-use Rattle.amounts.specs.declared.pattern.Range.{Range}
+use Rattle.amounts.specs.Pattern.{_to_, inRange}
 use Rattle.amounts.specs.declared.form.Ranges.{Ranges}
 use Rattle.amounts.specs.declared.form.Inputs.{Inputs}
 use Rattle.amounts.specs.declared.form.InputsRead.{InputsRead}
@@ -20,10 +18,6 @@ use Rattle.amounts.specs.declared.form.FormRead.the-variants.{Form, Decl
 
 abbrev pub isForm : ℕ → Bool
 isForm n = leb 1 n && leb n 3
-
-infix 20 _to_
-abbrev pub _to_ : ℕ → ℕ → Range
-low to high = record { low = whole low; high = whole high }
 
 -- "w diameter in m, 1 to 1,000; u content in weight percent, 0 to 100; p kL drawn, 0 to 10^9; q is zero"
 abbrev pub floatingRanges : Ranges

@@ -15,8 +15,8 @@ use lib.Ieee.Exact.{HasValue, round-exact}
 use lib.Ieee.Back.{round-whole}
 use lib.Ieee.Order.{round-mono, le-of-values}
 use Rattle.amounts.specs.Binary64.{decimal, whole, _⊗_, _⊘_, _⊕_, finite}
-use Rattle.amounts.specs.Pattern.{inRange}
-use Rattle.amounts.specs.Form.{_to_, floatingRanges, fixedRanges, stationRanges, rangesOf, inRanges, formAt}
+use Rattle.amounts.specs.Pattern.{_to_, inRange}
+use Rattle.amounts.specs.Form.{floatingRanges, fixedRanges, stationRanges, rangesOf, inRanges, formAt}
 use Rattle.amounts.specs.Coefficient.{rows, find, rowIf, rowOf}
 use Rattle.amounts.specs.Decline.{Answer, taken, declined, onTaken}
 use Rattle.amounts.specs.Loss.{floatingRoofKg, fixedRoofKg, stationKg, kgOf}
