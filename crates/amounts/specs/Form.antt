@@ -1,14 +1,12 @@
 -- The three forms of a vapour loss (document 01, "Vapour losses"): their inputs and ranges.
 use Prim.Native.Nat.{ℕ, _^_}
 use mathlib.Core.Bool.{Bool, _&&_, cond}
-use mathlib.Core.List.{List, [], _∷_}
-use lib.Dec.{eqb, leb}
+use mathlib.Core.List.{[], _∷_}
+use lib.Dec.{eqb}
 use lib.Ieee.{Float}
-use Rattle.amounts.specs.Binary64.{whole}
 use Rattle.amounts.specs.Decline as decline
-use Rattle.amounts.specs.Decline.{Answer, taken, declined, Check, check, checked, layout}
-use Rattle.amounts.specs.Pattern.{inRange}
-use Rattle.amounts.specs.declared.pattern.Range.{Range}
+use Rattle.amounts.specs.Decline.{Answer, taken, declined, check, checked, layout}
+use Rattle.amounts.specs.Pattern.{_to_, inRange}
 use Rattle.amounts.specs.declared.form.Ranges.{Ranges}
 use Rattle.amounts.specs.declared.form.Inputs.{Inputs}
 use Rattle.amounts.specs.declared.form.InputsRead.{InputsRead}
@@ -17,13 +15,6 @@ use Rattle.amounts.specs.declared.form.LossForm.{LossForm}
 use Rattle.amounts.specs.declared.form.LossForm.the-variants.{FloatingRoof, FixedRoof, Station}
 use Rattle.amounts.specs.declared.form.FormRead.{FormRead}
 use Rattle.amounts.specs.declared.form.FormRead.the-variants.{Form, Declined}
-
-abbrev pub isForm : ℕ → Bool
-isForm n = leb 1 n && leb n 3
-
-infix 20 _to_
-abbrev pub _to_ : ℕ → ℕ → Range
-low to high = record { low = whole low; high = whole high }
 
 -- "w diameter in m, 1 to 1,000; u content in weight percent, 0 to 100; p kL drawn, 0 to 10^9; q is zero"
 abbrev pub floatingRanges : Ranges
@@ -41,33 +32,31 @@ stationRanges = record { w = 0 to 10 ^ 9; u = 0 to 10 ^ 9; p = 0 to 10 ^ 9; q = 
 abbrev pub unusedRanges : Ranges
 unusedRanges = record { w = 0 to 0; u = 0 to 0; p = 0 to 0; q = 0 to 0 }
 
-unfoldable pub rangesOf : ℕ → Ranges
-rangesOf n = cond (eqb n 1) floatingRanges (cond (eqb n 2) fixedRanges stationRanges)
-
 abbrev pub inRanges : Ranges → Float → Float → Float → Float → Bool
 inRanges r w u p q = inRange (r .w) w && (inRange (r .u) u && (inRange (r .p) p && inRange (r .q) q))
 
--- a form with its own inputs
-unfoldable pub formAt : ℕ → Float → Float → Float → Float → LossForm
-formAt n w u p q = cond (eqb n 1) (FloatingRoof w u p) (cond (eqb n 2) (FixedRoof w u p q) (Station w u p q))
-
--- "declines a form .. outside this paper's limits by 6; a loss is then declined by 7 .."
-abbrev pub formChecks : ℕ → Float → Float → Float → Float → List Check
-formChecks n w u p q = check (isForm n) layout ∷ check (inRanges (rangesOf n) w u p q) decline.range ∷ []
-
-unfoldable pub formOf : ℕ → Float → Float → Float → Float → Answer LossForm
+-- 7: each float is in its range, or the form is declined
+unfoldable pub ranged : {A : Type 0} → Ranges → Float → Float → Float → Float → A → Answer A
 unfolding checked
-formOf n w u p q = checked (formChecks n w u p q) (formAt n w u p q)
+ranged r w u p q a = checked (check (inRanges r w u p q) decline.range ∷ []) a
 
--- what each case of the code's answer stands for
+-- form 1, floating roof; 2, filling a fixed roof; 3, station; "declines a form .. outside this paper's limits by 6; a loss is then declined by 7 .."
+unfoldable pub formOf : ℕ → Float → Float → Float → Float → Answer LossForm
+unfolding ranged
+formOf n w u p q =
+    cond (eqb n 1) (ranged floatingRanges w u p q (FloatingRoof w u p))
+    (cond (eqb n 2) (ranged fixedRanges w u p q (FixedRoof w u p q))
+    (cond (eqb n 3) (ranged stationRanges w u p q (Station w u p q)) (declined layout)))
+
+-- the four floats of a form
+unfoldable pub inputsOf : Ranges → Float → Float → Float → Float → Answer Inputs
+unfolding ranged
+inputsOf r w u p q = ranged r w u p q (record { w = w; u = u; p = p; q = q })
+
+-- what each case of the code's answers stands for
 abbrev pub answer : FormRead → Answer LossForm
 answer (Form form) = taken form
 answer (Declined d) = declined (d .number)
-
--- four floats in their ranges, and what each case of the code's answer to them stands for
-unfoldable pub inputsOf : Ranges → Float → Float → Float → Float → Answer Inputs
-unfolding checked
-inputsOf r w u p q = checked (check (inRanges r w u p q) decline.range ∷ []) (record { w = w; u = u; p = p; q = q })
 
 abbrev pub inputsAnswer : InputsRead → Answer Inputs
 inputsAnswer (read.Values x) = taken x

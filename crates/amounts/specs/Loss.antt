@@ -1,12 +1,13 @@
 -- Vapour losses (document 01, "Vapour losses"): "operations are f64, each rounded once, in the order bracketed".
 use Prim.Native.Nat.{ℕ, _^_}
-use mathlib.Core.List.{List, [], _∷_}
+use mathlib.Core.Bool.{cond}
+use mathlib.Core.List.{[], _∷_}
 use lib.Dec.{leb}
 use lib.Ieee.{Float, le}
 use Rattle.amounts.specs.Binary64.{decimal, whole, _⊗_, _⊘_, _⊕_}
 use Rattle.amounts.specs.Coefficient.{rowOf}
-use Rattle.amounts.specs.Decline.{Answer, taken, declined, Check, check, checked, onTaken, layout, excess}
-use Rattle.amounts.specs.Form.{formAt, formChecks}
+use Rattle.amounts.specs.Decline.{Answer, taken, declined, check, checked, onTaken, layout, excess}
+use Rattle.amounts.specs.Form.{formOf}
 use Rattle.amounts.specs.Whole.{wholePart}
 use Rattle.amounts.specs.declared.coefficient.CoefficientRow.{CoefficientRow}
 use Rattle.amounts.specs.declared.form.LossForm.{LossForm}
@@ -48,15 +49,15 @@ unfoldable pub lossOf : LossForm → Answer CoefficientRow → Answer ℕ
 unfolding weighedOf
 lossOf form found = onTaken (kgOf form found) weighedOf
 
--- "declines a form .. or other whole number outside this paper's limits by 6; a loss is then declined by 7 .."
-abbrev pub vapourChecks : ℕ → ℕ → Float → Float → Float → Float → List Check
-vapourChecks form number w u p q = check (leb 1 number) layout ∷ formChecks form w u p q
+-- "a loss is then declined by 7, 8 and 9 in that order": by a form's number and its floats, over the row found for its substance
+unfoldable pub lossOver : ℕ → Answer CoefficientRow → Float → Float → Float → Float → Answer ℕ
+unfolding formOf lossOf
+lossOver form found w u p q = onTaken (formOf form w u p q) (λ f. lossOf f found)
 
--- ".. 8 and 9 in that order"
+-- a loss called alone: "declines a form .. or other whole number outside this paper's limits by 6"
 unfoldable pub vapourOf : ℕ → ℕ → Float → Float → Float → Float → Answer ℕ
-unfolding checked
-vapourOf form number w u p q =
-    onTaken (checked (vapourChecks form number w u p q) (formAt form w u p q)) (λ f. lossOf f (rowOf number))
+unfolding lossOver
+vapourOf form number w u p q = cond (leb 1 number) (lossOver form (rowOf number) w u p q) (declined layout)
 
 -- what each case of the code's answers stands for
 abbrev pub kgAnswer : Kg → Answer Float

@@ -1,13 +1,18 @@
 -- A float and its range (document 01, "Vapour losses", and decline 7).
+use Prim.Native.Nat.{ℕ}
 use mathlib.Core.Bool.{Bool, _&&_}
 use mathlib.Core.List.{[], _∷_}
 use lib.Ieee.{Float, le}
-use Rattle.amounts.specs.Binary64.{finite}
+use Rattle.amounts.specs.Binary64.{whole, finite}
 use Rattle.amounts.specs.Decline as decline
 use Rattle.amounts.specs.Decline.{Answer, taken, declined, check, checked}
 use Rattle.amounts.specs.declared.pattern.Range.{Range}
 use Rattle.amounts.specs.declared.pattern.FloatRead.{FloatRead}
 use Rattle.amounts.specs.declared.pattern.FloatRead.the-variants.{Value, Declined}
+
+infix 20 _to_
+abbrev pub _to_ : ℕ → ℕ → Range
+low to high = record { low = whole low; high = whole high }
 
 -- finite, and not outside: the ends belong to the range, and either sign of zero is 0
 abbrev pub inRange : Range → Float → Bool

@@ -1,7 +1,7 @@
 // The three forms of a vapour loss, and the ranges of their inputs.
 ghost use mathlib.Core.Path.{_≡_};
 ghost use Rattle.amounts.specs.Binary64.{valueOf};
-ghost use Rattle.amounts.specs.Form.{rangesOf, formAt, inputsOf, formOf, inputsAnswer, answer};
+ghost use Rattle.amounts.specs.Form.{inputsOf, formOf, inputsAnswer, answer};
 use crate::decline;
 use crate::decline::Decline;
 use crate::pattern;
@@ -109,68 +109,8 @@ const STATION: Ranges = Ranges {
     },
 };
 
-// An unused float has zero as its whole range.
-pub const UNUSED: Ranges = Ranges {
-    w: Range {
-        low: 0.0,
-        high: 0.0,
-    },
-    u: Range {
-        low: 0.0,
-        high: 0.0,
-    },
-    p: Range {
-        low: 0.0,
-        high: 0.0,
-    },
-    q: Range {
-        low: 0.0,
-        high: 0.0,
-    },
-};
-
-// The ranges of a form's four floats.
-pub fn ranges_of(form: u8) -> Ranges
-    ensures { λ r. ⌜ r ≡ rangesOf form ⌝ }
-{
-    if form == 1 {
-        return FLOATING_ROOF;
-    }
-    if form == 2 {
-        return FIXED_ROOF;
-    }
-    STATION
-}
-
-// The form of a number from 1 to 3 with its own inputs.
-pub fn form_at(form: u8, x: Inputs) -> LossForm
-    ensures { λ r. ⌜ r ≡ formAt form (x .w) (x .u) (x .p) (x .q) ⌝ }
-{
-    if form == 1 {
-        return LossForm::FloatingRoof {
-            diameter: x.w,
-            content: x.u,
-            drawn: x.p,
-        };
-    }
-    if form == 2 {
-        return LossForm::FixedRoof {
-            volume: x.w,
-            partial: x.u,
-            tank: x.p,
-            share: x.q,
-        };
-    }
-    LossForm::Station {
-        received: x.w,
-        filling: x.u,
-        dispensed: x.p,
-        fueling: x.q,
-    }
-}
-
 // Four floats from their bit patterns, each in its range.
-pub fn read_inputs(ranges: Ranges, w: u64, u: u64, p: u64, q: u64) -> InputsRead
+fn read_inputs(ranges: Ranges, w: u64, u: u64, p: u64, q: u64) -> InputsRead
     ensures { λ r. ⌜ inputsAnswer r ≡ inputsOf ranges (valueOf w) (valueOf u) (valueOf p) (valueOf q) ⌝ }
 {
     let FloatRead::Value(wx) = pattern::read_float(w, ranges.w) else {
@@ -193,18 +133,59 @@ pub fn read_inputs(ranges: Ranges, w: u64, u: u64, p: u64, q: u64) -> InputsRead
     })
 }
 
-// The form of a number from 1 to 3 with its inputs, from four bit patterns.
-pub fn read_form(form: u8, w: u64, u: u64, p: u64, q: u64) -> FormRead
+fn read_floating_roof(w: u64, u: u64, p: u64, q: u64) -> FormRead
+    ensures { λ r. ⌜ answer r ≡ formOf 1 (valueOf w) (valueOf u) (valueOf p) (valueOf q) ⌝ }
+{
+    match read_inputs(FLOATING_ROOF, w, u, p, q) {
+        InputsRead::Values(x) => FormRead::Form(LossForm::FloatingRoof {
+            diameter: x.w,
+            content: x.u,
+            drawn: x.p,
+        }),
+        InputsRead::Declined(d) => FormRead::Declined(d),
+    }
+}
+
+fn read_fixed_roof(w: u64, u: u64, p: u64, q: u64) -> FormRead
+    ensures { λ r. ⌜ answer r ≡ formOf 2 (valueOf w) (valueOf u) (valueOf p) (valueOf q) ⌝ }
+{
+    match read_inputs(FIXED_ROOF, w, u, p, q) {
+        InputsRead::Values(x) => FormRead::Form(LossForm::FixedRoof {
+            volume: x.w,
+            partial: x.u,
+            tank: x.p,
+            share: x.q,
+        }),
+        InputsRead::Declined(d) => FormRead::Declined(d),
+    }
+}
+
+fn read_station(w: u64, u: u64, p: u64, q: u64) -> FormRead
+    ensures { λ r. ⌜ answer r ≡ formOf 3 (valueOf w) (valueOf u) (valueOf p) (valueOf q) ⌝ }
+{
+    match read_inputs(STATION, w, u, p, q) {
+        InputsRead::Values(x) => FormRead::Form(LossForm::Station {
+            received: x.w,
+            filling: x.u,
+            dispensed: x.p,
+            fueling: x.q,
+        }),
+        InputsRead::Declined(d) => FormRead::Declined(d),
+    }
+}
+
+// The form of a number with its inputs, from four bit patterns.
+pub(crate) fn read_form(form: u8, w: u64, u: u64, p: u64, q: u64) -> FormRead
     ensures { λ r. ⌜ answer r ≡ formOf form (valueOf w) (valueOf u) (valueOf p) (valueOf q) ⌝ }
 {
-    if form < 1 {
-        return FormRead::Declined(decline::LAYOUT);
+    if form == 1 {
+        return read_floating_roof(w, u, p, q);
     }
-    if form > 3 {
-        return FormRead::Declined(decline::LAYOUT);
+    if form == 2 {
+        return read_fixed_roof(w, u, p, q);
     }
-    let InputsRead::Values(x) = read_inputs(ranges_of(form), w, u, p, q) else {
-        return FormRead::Declined(decline::RANGE);
-    };
-    FormRead::Form(form_at(form, x))
+    if form == 3 {
+        return read_station(w, u, p, q);
+    }
+    FormRead::Declined(decline::LAYOUT)
 }

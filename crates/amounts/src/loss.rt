@@ -1,8 +1,9 @@
 // Vapour losses in kg and in micrograms.
 ghost use mathlib.Core.Path.{_≡_};
+ghost use lib.Ieee.{Float};
 ghost use Rattle.amounts.specs.Binary64.{valueOf};
 ghost use Rattle.amounts.specs.Coefficient as coefficients;
-ghost use Rattle.amounts.specs.Loss.{floatingRoofKg, fixedRoofKg, stationKg, kgOf, weighedOf, lossOf, vapourOf, kgAnswer, answer};
+ghost use Rattle.amounts.specs.Loss.{floatingRoofKg, fixedRoofKg, stationKg, kgOf, weighedOf, lossOf, lossOver, vapourOf, kgAnswer, answer};
 use crate::coefficient;
 use crate::coefficient::CoefficientRow;
 use crate::coefficient::Found;
@@ -87,7 +88,7 @@ fn weigh(kg: f64) -> Loss
 }
 
 // The loss of a form in micrograms, over the row that was found for its substance.
-pub fn loss_of(form: LossForm, found: Found) -> Loss
+fn loss_of(form: LossForm, found: Found) -> Loss
     ensures { λ r. ⌜ answer r ≡ lossOf form (coefficients.answer found) ⌝ }
 {
     match loss_kg(form, found) {
@@ -96,21 +97,24 @@ pub fn loss_of(form: LossForm, found: Found) -> Loss
     }
 }
 
-// A row over which a form's loss is that of the number: a station needs none, so that none is looked for.
-fn row_for(form: LossForm, number: u16) -> Found
-    ensures { λ r. ⌜ lossOf form (coefficients.answer r) ≡ lossOf form (coefficients.rowOf number) ⌝ }
+// The loss of a form's number and four bit patterns, over the row that was found for its substance; a station needs none.
+pub fn loss_over(form: u8, found: Found, w: u64, u: u64, p: u64, q: u64) -> Loss
+    ensures { λ r. ⌜ answer r ≡ lossOver form (coefficients.answer found) (valueOf w) (valueOf u) (valueOf p) (valueOf q) ⌝ }
 {
-    if let LossForm::Station { .. } = form {
+    match form::read_form(form, w, u, p, q) {
+        FormRead::Form(f) => loss_of(f, found),
+        FormRead::Declined(d) => Loss::Declined(d),
+    }
+}
+
+// The row over which a form's loss is that of the number: a station needs none, so that none is looked for.
+fn row_for(form: u8, number: u16) -> Found
+    ensures { λ r. ⌜ ((w u p q : Float) → lossOver form (coefficients.answer r) w u p q ≡ lossOver form (coefficients.rowOf number) w u p q) ⌝ }
+{
+    if form == 3 {
         return Found::NoRow;
     }
     coefficient::row_of(number)
-}
-
-// The loss of a form, by the management number of its substance.
-fn loss_by(form: LossForm, number: u16) -> Loss
-    ensures { λ r. ⌜ answer r ≡ lossOf form (coefficients.rowOf number) ⌝ }
-{
-    loss_of(form, row_for(form, number))
 }
 
 // The loss called alone: a form's number, a management number and four bit patterns.
@@ -120,8 +124,5 @@ pub fn vapour_loss(form: u8, number: u16, w: u64, u: u64, p: u64, q: u64) -> Los
     if number < 1 {
         return Loss::Declined(decline::LAYOUT);
     }
-    match form::read_form(form, w, u, p, q) {
-        FormRead::Form(f) => loss_by(f, number),
-        FormRead::Declined(d) => Loss::Declined(d),
-    }
+    loss_over(form, row_for(form, number), w, u, p, q)
 }

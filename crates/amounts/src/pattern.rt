@@ -1,7 +1,7 @@
 // Floats from bit patterns that nobody vouches for.
 ghost use mathlib.Core.Path.{_≡_};
 ghost use Rattle.amounts.specs.Binary64.{valueOf};
-ghost use Rattle.amounts.specs.Pattern.{readingOf, answer};
+ghost use Rattle.amounts.specs.Pattern.{_to_, inRange, readingOf, answer};
 use crate::decline;
 use crate::decline::Decline;
 
@@ -31,4 +31,11 @@ pub fn read_float(bits: u64, range: Range) -> FloatRead
         }
     }
     FloatRead::Declined(decline::RANGE)
+}
+
+// Whether a float is zero, of either sign: "an unused float has zero as its whole range".
+pub fn is_zero(bits: u64) -> bool
+    ensures { λ r. ⌜ r ≡ inRange (0 to 0) (valueOf bits) ⌝ }
+{
+    bits % 0x8000_0000_0000_0000 == 0
 }

@@ -1,20 +1,21 @@
--- What reading four floats tells of them. Assumes nothing.
-use mathlib.Core.Path.{_≡_, sym, ap, _∙_}
-use mathlib.Core.Bool.{true, false}
+-- What reading four floats tells of a form that they are the inputs of. Assumes nothing.
+use mathlib.Core.Path.{_≡_, refl, sym, ap, _∙_}
+use mathlib.Core.Bool.{Bool, true, false}
+use mathlib.Core.List.{[], _∷_}
 use lib.Ieee.{Float}
-use Rattle.amounts.specs.Form.{inRanges, inputsOf, inputsAnswer}
-use Rattle.amounts.specs.declared.decline.Decline.{Decline}
+use Rattle.amounts.specs.Decline.{Answer, taken, declined, check, checked, onTaken, range}
+use Rattle.amounts.specs.Form.{inRanges, ranged, inputsOf, inputsAnswer}
 use Rattle.amounts.specs.declared.form.Inputs.{Inputs}
 use Rattle.amounts.specs.declared.form.InputsRead.{InputsRead}
-use Rattle.amounts.specs.declared.form.InputsRead.the-variants.{Values, Declined}
+use Rattle.amounts.specs.declared.form.LossForm.{LossForm}
 use Rattle.amounts.specs.declared.form.Ranges.{Ranges}
-use Rattle.amounts.proofs.decline.Laws.{one-taken, one-declined}
 
-module _ (ranges : Ranges) (w u p q : Float) (r : InputsRead) (e : inputsAnswer r ≡ inputsOf ranges w u p q) where
-  pub read : (x : Inputs) → r ≡ Values x → (inRanges ranges w u p q ≡ true) × (x ≡ record { w = w; u = u; p = p; q = q })
-  unfolding inputsOf
-  read x v = one-taken (inRanges ranges w u p q) 7 (record { w = w; u = u; p = p; q = q }) x (sym (ap inputsAnswer v) ∙ e)
-
-  pub refused : (d : Decline) → r ≡ Declined d → inRanges ranges w u p q ≡ false
-  unfolding inputsOf
-  refused d v = one-declined (inRanges ranges w u p q) 7 (record { w = w; u = u; p = p; q = q }) (d .number) (sym (ap inputsAnswer v) ∙ e) .0
+-- the form of inputs that are read is that of the floats, and so is the decline
+pub filled : (ranges : Ranges) (w u p q : Float) (form : Inputs → LossForm) (r t : InputsRead) → inputsAnswer r ≡ inputsOf ranges w u p q → r ≡ t
+    → onTaken (inputsAnswer t) (λ x. taken (form x)) ≡ ranged ranges w u p q (form (record { w = w; u = u; p = p; q = q }))
+unfolding inputsOf checked
+filled ranges w u p q form r t e same = ap (λ (k : InputsRead). onTaken (inputsAnswer k) (λ x. taken (form x))) (sym same) ∙ ap (λ (k : Answer Inputs). onTaken k (λ x. taken (form x))) e ∙ go (inRanges ranges w u p q)
+  where
+    go : (t : Bool) → onTaken (checked (check t range ∷ []) (record { w = w; u = u; p = p; q = q })) (λ (x : Inputs). taken (form x)) ≡ checked (check t range ∷ []) (form (record { w = w; u = u; p = p; q = q }))
+    go true = refl
+    go false = refl

@@ -15,15 +15,17 @@ use lib.Ieee.Exact.{HasValue, round-exact}
 use lib.Ieee.Back.{round-whole}
 use lib.Ieee.Order.{round-mono, le-of-values}
 use Rattle.amounts.specs.Binary64.{decimal, whole, _⊗_, _⊘_, _⊕_, finite}
-use Rattle.amounts.specs.Pattern.{inRange}
-use Rattle.amounts.specs.Form.{_to_, floatingRanges, fixedRanges, stationRanges, rangesOf, inRanges, formAt}
+use Rattle.amounts.specs.Pattern.{_to_, inRange}
+use Rattle.amounts.specs.Form.{floatingRanges, fixedRanges, stationRanges, inRanges, ranged, formOf}
 use Rattle.amounts.specs.Coefficient.{rows, find, rowIf, rowOf}
-use Rattle.amounts.specs.Decline.{Answer, taken, declined, onTaken}
+use Rattle.amounts.specs.Decline.{Answer, taken, declined, onTaken, layout, range}
 use Rattle.amounts.specs.Loss.{floatingRoofKg, fixedRoofKg, stationKg, kgOf}
 use Rattle.amounts.specs.declared.coefficient.CoefficientRow.{CoefficientRow}
 use Rattle.amounts.specs.declared.coefficient.Entry.{Entry}
 use Rattle.amounts.specs.declared.form.Ranges.{Ranges}
+use Rattle.amounts.specs.declared.form.LossForm.{LossForm}
 use Rattle.amounts.specs.declared.form.LossForm.the-variants.{FloatingRoof, FixedRoof, Station}
+use Rattle.amounts.proofs.decline.Laws.{one-taken}
 
 -- ---- tests and facts
 -- a test that is `true`, and a test that passes
@@ -316,18 +318,27 @@ taken-within : {n : ℕ} (found : Answer CoefficientRow) (f : CoefficientRow →
 taken-within {n} (taken row) f x h e = let same : f row ≡ x = cc in subst (Within n) same (h row refl)
 taken-within (declined d) f x h e = let z : _≡_ {A = ℕ} 0 1 = cc in absurd (omega arith)
 
--- the loss of inputs in their ranges, with a row like those of the table where one is used
-pub kg-finite : (form : ℕ) (found : Answer CoefficientRow) (w u p q x : Float) → ((row : CoefficientRow) → found ≡ taken row → RowWithin row)
-    → inRanges (rangesOf form) w u p q ≡ true → kgOf (formAt form w u p q) found ≡ taken x → (finite x ≡ true) × (le (whole 0) x ≡ true)
-unfolding rangesOf formAt
-kg-finite form found w u p q x c = go (eqb form 1) (eqb form 2)
+-- the kg of a form that is taken, with a row like those of the table where one is used
+pub kg-finite : (form : ℕ) (found : Answer CoefficientRow) (w u p q : Float) (f : LossForm) (x : Float) → ((row : CoefficientRow) → found ≡ taken row → RowWithin row)
+    → formOf form w u p q ≡ taken f → kgOf f found ≡ taken x → (finite x ≡ true) × (le (whole 0) x ≡ true)
+unfolding formOf ranged
+kg-finite form found w u p q f x c = go (eqb form 1) (eqb form 2) (eqb form 3)
   where
-    go : (a b : Bool) → inRanges (cond a floatingRanges (cond b fixedRanges stationRanges)) w u p q ≡ true
-        → kgOf (cond a (FloatingRoof w u p) (cond b (FixedRoof w u p q) (Station w u p q))) found ≡ taken x → (finite x ≡ true) × (le (whole 0) x ≡ true)
-    go true b h e = within-finite (taken-within found (λ row. floatingRoofKg row w u p) x (λ row t. floating-within row w u p q (c row t) h) e)
-    go false true h e = within-finite (taken-within found (λ row. fixedRoofKg row w u p q) x (λ row t. fixed-within row w u p q (c row t) h) e)
-    go false false h e = let same : stationKg w u p q ≡ x = cc in within-finite (subst (Within 61) same (station-within w u p q h))
+    go : (a b d : Bool) → cond a (ranged floatingRanges w u p q (FloatingRoof w u p)) (cond b (ranged fixedRanges w u p q (FixedRoof w u p q)) (cond d (ranged stationRanges w u p q (Station w u p q)) (declined layout))) ≡ taken f
+        → kgOf f found ≡ taken x → (finite x ≡ true) × (le (whole 0) x ≡ true)
+    go true b d h e =
+        let z = one-taken (inRanges floatingRanges w u p q) range (FloatingRoof w u p) f (sym h) in
+        within-finite (taken-within found (λ row. floatingRoofKg row w u p) x (λ row t. floating-within row w u p q (c row t) (z .0)) (rw (z .1) at e))
+    go false true d h e =
+        let z = one-taken (inRanges fixedRanges w u p q) range (FixedRoof w u p q) f (sym h) in
+        within-finite (taken-within found (λ row. fixedRoofKg row w u p q) x (λ row t. fixed-within row w u p q (c row t) (z .0)) (rw (z .1) at e))
+    go false false true h e =
+        let z = one-taken (inRanges stationRanges w u p q) range (Station w u p q) f (sym h) in
+        let k : taken (stationKg w u p q) ≡ taken x = rw (z .1) at e in
+        let same : stationKg w u p q ≡ x = cc in
+        within-finite (subst (Within 61) same (station-within w u p q (z .0)))
+    go false false false h e = let z : _≡_ {A = ℕ} 0 1 = cc in absurd (omega arith)
 
 -- the same of a substance's number
-pub vapour-kg-finite : (form number : ℕ) (w u p q x : Float) → inRanges (rangesOf form) w u p q ≡ true → kgOf (formAt form w u p q) (rowOf number) ≡ taken x → (finite x ≡ true) × (le (whole 0) x ≡ true)
-vapour-kg-finite form number w u p q x = kg-finite form (rowOf number) w u p q x (rows-within number)
+pub vapour-kg-finite : (form number : ℕ) (w u p q : Float) (f : LossForm) (x : Float) → formOf form w u p q ≡ taken f → kgOf f (rowOf number) ≡ taken x → (finite x ≡ true) × (le (whole 0) x ≡ true)
+vapour-kg-finite form number w u p q f x = kg-finite form (rowOf number) w u p q f x (rows-within number)

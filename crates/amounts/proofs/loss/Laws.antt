@@ -1,21 +1,24 @@
 -- A loss that is taken is at most 2×10^15 micrograms, after its rounding. Assumes nothing.
 use mathlib.Core.Path.{_≡_, refl, sym, ap, _∙_, subst}
 use mathlib.Core.Bool.{Bool, true, false, cond}
+use mathlib.Core.List.{[], _∷_}
 use Prim.Native.Nat.{ℕ, zero, suc, _+_, _-_, _*_, _/_, _^_, _≤_, _<_, min, zero-le}
 use native.Mathlib.Nat.{le-of-eq, le-trans, div-le-of-le-mul, mul-pos}
 use native.Mathlib.Omega.{arith}
-use lib.Dec.{T, ltb, lit<}
+use lib.Dec.{T, leb, ltb, lit<}
 use lib.Ieee.{Float, Format, nan, inf, fin, binary64, up, down, low, emax, prec, odd, units, round, mul, le, lt, eq, toUnsigned}
 use lib.Ieee.Fits.{round-is, down-pos}
 use lib.Ieee.Order.{round-mono}
+use borrow.Author.Tests.{le-leb}
 use Rattle.amounts.specs.Binary64.{whole}
-use Rattle.amounts.specs.Decline.{Answer, taken, checked, excess}
+use Rattle.amounts.specs.Decline.{Answer, taken, declined, check, checked, onTaken, layout, range, excess}
 use Rattle.amounts.specs.Coefficient.{rowOf}
-use Rattle.amounts.specs.Form.{formAt}
-use Rattle.amounts.specs.Loss.{microgramsOf, kgOf, weighedOf, lossOf, vapourChecks, vapourOf}
+use Rattle.amounts.specs.Form.{stationRanges, inRanges, formOf}
+use Rattle.amounts.specs.Loss.{microgramsOf, kgOf, weighedOf, lossOf, lossOver, vapourOf}
 use Rattle.amounts.specs.Whole.{wholePart}
 use Rattle.amounts.specs.declared.coefficient.CoefficientRow.{CoefficientRow}
 use Rattle.amounts.specs.declared.form.LossForm.{LossForm}
+use Rattle.amounts.specs.declared.form.LossForm.the-variants.{Station}
 use Rattle.amounts.proofs.decline.Laws.{one-taken, was-taken}
 use Rattle.amounts.proofs.loss.Finite.{at-most}
 
@@ -81,7 +84,29 @@ pub loss-bounded : (form : LossForm) (found : Answer CoefficientRow) (n : ℕ) �
 unfolding lossOf
 loss-bounded form found n e = let z = was-taken (kgOf form found) weighedOf n e in weighed-bounded (z .0) n (z .2)
 
--- a loss called alone
+-- by a form's number, over any row
+pub over-bounded : (form : ℕ) (found : Answer CoefficientRow) (w u p q : Float) (n : ℕ) → lossOver form found w u p q ≡ taken n → n ≤ 2000000000000000
+unfolding lossOver
+over-bounded form found w u p q n e = let z = was-taken (formOf form w u p q) (λ f. lossOf f found) n e in loss-bounded (z .0) found n (z .2)
+
+-- a station's loss is the same over any two rows
+pub station-alone : (found other : Answer CoefficientRow) (w u p q : Float) → lossOver 3 found w u p q ≡ lossOver 3 other w u p q
+unfolding lossOver formOf lossOf checked
+station-alone found other w u p q = go (inRanges stationRanges w u p q)
+  where
+    go : (t : Bool) → onTaken (checked (check t range ∷ []) (Station w u p q)) (λ f. lossOf f found) ≡ onTaken (checked (check t range ∷ []) (Station w u p q)) (λ f. lossOf f other)
+    go true = refl
+    go false = refl
+
+-- a loss called alone is that of its substance's row
+pub vapour-over : (form number : ℕ) (w u p q : Float) → 1 ≤ number → vapourOf form number w u p q ≡ lossOver form (rowOf number) w u p q
+unfolding vapourOf
+vapour-over form number w u p q h = rw (le-leb 1 number h)
+
 pub vapour-bounded : (form number : ℕ) (w u p q : Float) (n : ℕ) → vapourOf form number w u p q ≡ taken n → n ≤ 2000000000000000
 unfolding vapourOf
-vapour-bounded form number w u p q n e = let z = was-taken (checked (vapourChecks form number w u p q) (formAt form w u p q)) (λ f. lossOf f (rowOf number)) n e in loss-bounded (z .0) (rowOf number) n (z .2)
+vapour-bounded form number w u p q n = go (leb 1 number)
+  where
+    go : (t : Bool) → cond t (lossOver form (rowOf number) w u p q) (declined layout) ≡ taken n → n ≤ 2000000000000000
+    go true e = over-bounded form (rowOf number) w u p q n e
+    go false e = let z : _≡_ {A = ℕ} 0 1 = cc in absurd (omega arith)

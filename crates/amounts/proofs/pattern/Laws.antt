@@ -1,14 +1,20 @@
 -- Which patterns of 64 bits are finite: those that, without the sign, lie below 0x7ff0_0000_0000_0000. Assumes nothing.
 use mathlib.Core.Path.{_≡_, refl, sym, ap, _∙_, subst}
-use mathlib.Core.Bool.{Bool, true, false, not, cond}
+use mathlib.Core.Bool.{Bool, true, false, not, _&&_, _||_, cond}
 use Prim.Native.Nat.{ℕ, zero, suc, _+_, _*_, _%_, _/_, _≤_, _<_, _^_}
+use native.Mathlib.Nat.{mul-pos, zero-lt-suc}
 use native.Mathlib.Omega.{arith}
-use lib.Dec.{T, eqb, leb}
-use lib.Ieee.{Float, nan, inf, binary64, odd, ofFields, ofBits, nanBits}
+use lib.IntN.{ℤ}
+use lib.Dec.{T, eqb, leb, eqb·suc-zero}
+use lib.Pow.{pow-pos}
+use lib.Ieee.{Float, nan, inf, fin, binary64, up, down, below, level, odd, ofFields, ofBits, nanBits, le, lt, eq, round}
+use lib.Ieee.Exact.{HasValue, odd-sign}
+use lib.Ieee.Fits.{down-pos}
+use lib.Ieee.Positive.{first-pos}
 use lib.Ieee.Bits.{nanBits-above}
-use borrow.Author.Tests.{eq-eqb, ne-eqb, le-ltb}
+use borrow.Author.Tests.{eq-eqb, ne-eqb, lt-ltb, le-ltb}
 use Rattle.amounts.specs.Binary64.{finite, valueOf}
-use Rattle.amounts.specs.Pattern.{inRange, readingOf, answer}
+use Rattle.amounts.specs.Pattern.{_to_, inRange, readingOf, answer}
 use Rattle.amounts.specs.declared.decline.Decline.{Decline}
 use Rattle.amounts.specs.declared.pattern.Range.{Range}
 use Rattle.amounts.specs.declared.pattern.FloatRead.{FloatRead}
@@ -45,6 +51,44 @@ module _ (b : ℕ) where
   pub no-nan : b % 0x8000_0000_0000_0000 < 0x7ff0_0000_0000_0000 → T (not (nanBits binary64 b))
   no-nan h =
       subst (λ (t : Bool). T (not t)) (sym (nanBits-above binary64 b ∙ le-ltb (2047 * 2 ^ 52) (b % 2 ^ 63) (omega arith))) tt
+
+-- ---- which patterns are zero: those of which nothing but the sign is set
+
+-- a size above zero is not from zero to zero
+above-zero : (x : Float) (s : Bool) (a l : ℕ) → HasValue x s a (2 ^ l) → 0 < a → inRange (0 to 0) x ≡ false
+unfolding le lt eq round
+above-zero (fin s m e) t a l v A = go s (m * up e) (down e) (first-pos (m * up e) (2 ^ l) (subst (λ (k : ℕ). 0 < k) (sym (v .1)) (mul-pos A (down-pos e))))
+  where
+    go : (s : Bool) (n d : ℕ) → 0 < n → (below false (0 * d) s (n * 1) || level false (0 * d) s (n * 1)) && (below s (n * 1) false (0 * d) || level s (n * 1) false (0 * d)) ≡ false
+    go true n d h = rw (ne-eqb (0 * d) (n * 1) (λ (e : 0 * d ≡ n * 1). omega arith))
+    go false n d h = rw (lt-ltb (0 * d) (n * 1) (omega arith), le-ltb (n * 1) (0 * d) (omega arith), ne-eqb (n * 1) (0 * d) (λ (e : n * 1 ≡ 0 * d). omega arith))
+
+digits-zero : (d : ℕ) (s : Bool) (q k l : ℕ) → inRange (0 to 0) (odd d s q k l) ≡ eqb q 0
+unfolding odd le round
+digits-zero d true zero k l = refl
+digits-zero d false zero k l = refl
+digits-zero d s (suc q) k l = above-zero (odd d s (suc q) k l) s (suc q * 2 ^ k) l (odd-sign d s (suc q) k l) (mul-pos (zero-lt-suc q) (pow-pos k)) ∙ sym (eqb·suc-zero q)
+
+fields-zero : (s : Bool) (x t : ℕ) → inRange (0 to 0) (ofFields binary64 s x t) ≡ eqb x 0 && eqb t 0
+unfolding ofFields
+fields-zero s zero t = digits-zero 53 s t 0 1074
+fields-zero s (suc x) t = go (eqb (suc x) 2047) (eqb t 0) ∙ ap (λ (a : Bool). a && eqb t 0) (sym (eqb·suc-zero x))
+  where
+    go : (a b : Bool) → inRange (0 to 0) (cond a (cond b (inf s) nan) (odd 53 s (2 ^ 52 + t) x 1074)) ≡ false
+    go true true = refl
+    go true false = refl
+    go false b = digits-zero 53 s (2 ^ 52 + t) x 1074 ∙ ne-eqb (2 ^ 52 + t) 0 (λ (e : 2 ^ 52 + t ≡ 0). omega arith)
+
+pub zero-pattern : (b : ℕ) → eqb (b % 2 ^ 63) 0 ≡ inRange (0 to 0) (valueOf b)
+unfolding ofBits
+zero-pattern b =
+    same (b % 2 ^ 63 / 2 ^ 52) (b % 2 ^ 52) (b % 2 ^ 63) (λ h k. omega arith) (λ h. omega arith) (λ h. omega arith)
+    ∙ sym (fields-zero (leb (2 ^ 63) b) (b % 2 ^ 63 / 2 ^ 52) (b % 2 ^ 52))
+  where
+    same : (x t n : ℕ) → (x ≡ 0 → t ≡ 0 → n ≡ 0) → (n ≡ 0 → x ≡ 0) → (n ≡ 0 → t ≡ 0) → eqb n 0 ≡ eqb x 0 && eqb t 0
+    same zero zero n f g h = eq-eqb n 0 (f refl refl)
+    same zero (suc t) n f g h = ne-eqb n 0 (λ (e : n ≡ 0). let z = h e in omega arith) ∙ sym (eqb·suc-zero t)
+    same (suc x) t n f g h = ne-eqb n 0 (λ (e : n ≡ 0). let z = g e in omega arith) ∙ ap (λ (a : Bool). a && eqb t 0) (sym (eqb·suc-zero x))
 
 -- ---- what a reading tells of the float
 

@@ -1,20 +1,16 @@
 use borrow.Author.Needs.{needs}
-use Rattle.amounts.specs.Loss.{lossOf}
+use Rattle.amounts.proofs.loss.Laws.{station-alone}
 use Rattle.amounts.proofs.loss.row_for.Statement.{statement}
 use Rattle.amounts.proofs.loss.row_for.Tie as tie
 
-enum-told : tie.Need-enum-told
-enum-told c = search needs
-
 returns : tie.Need-returns
-unfolding lossOf
-returns c = rw (c .enum-told .given .1)
+returns c = rw (c .if1 .taken) (station-alone _ _)
 
 row-of-requires : tie.Need-row-of-requires
 row-of-requires c κs = search needs
 
 returns-2 : tie.Need-returns-2
-returns-2 c = rw (c .row-of .ensures)
+returns-2 c = λ w u p q. rw (c .row-of .ensures)
 
 pub row-for-spec : {M : Type 1} → statement M
-row-for-spec = tie.close (tie.spec enum-told returns row-of-requires returns-2)
+row-for-spec = tie.close (tie.spec returns row-of-requires returns-2)

@@ -1,0 +1,33 @@
+use lib.Ieee.{ofBits, round}
+use borrow.Author.Needs.{needs}
+use Rattle.amounts.specs.Form.{floatingRanges, formOf}
+use Rattle.amounts.specs.declared.form.Inputs.{Inputs}
+use Rattle.amounts.specs.declared.form.LossForm.{LossForm}
+use Rattle.amounts.specs.declared.form.LossForm.the-variants.{FloatingRoof}
+use Rattle.amounts.proofs.form.Laws.{filled}
+use Rattle.amounts.proofs.form.read_floating_roof.Statement.{statement}
+use Rattle.amounts.proofs.form.read_floating_roof.Tie as tie
+
+abbrev of-inputs : Inputs → LossForm
+of-inputs x = FloatingRoof (x .w) (x .u) (x .p)
+
+read-inputs-requires : tie.Need-read-inputs-requires
+read-inputs-requires c κs = search needs
+
+enum-known-x : tie.Need-enum-known-x
+enum-known-x c = search needs
+
+enum-known-d : tie.Need-enum-known-d
+enum-known-d c = search needs
+
+returns : tie.Need-returns
+unfolding formOf ofBits round
+returns c = filled floatingRanges _ _ _ _ of-inputs _ _ (c .before .before .before .read-inputs .ensures) (c .before .x .given .1)
+
+returns-2 : tie.Need-returns-2
+unfolding formOf ofBits round
+returns-2 c = filled floatingRanges _ _ _ _ of-inputs _ _ (c .before .before .before .read-inputs .ensures) (c .before .d .given .1)
+
+pub read-floating-roof-spec : {M : Type 1} → statement M
+read-floating-roof-spec =
+    tie.close (tie.spec read-inputs-requires enum-known-x enum-known-d returns returns-2)
