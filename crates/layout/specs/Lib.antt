@@ -4,6 +4,5 @@ pub mod Outline
 pub mod Verdict
 pub mod Setup
 pub mod Stage
-pub mod Post
 pub mod Frame
 pub mod Posts

@@ -2,7 +2,6 @@
 pub mod bytes;
 pub mod frame;
 pub mod outline;
-pub mod post;
 pub mod posts;
 pub mod setup;
 pub mod stage;

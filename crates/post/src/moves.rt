@@ -5,6 +5,7 @@ ghost use Prim.Native.Nat.{_*_, _^_, _<_};
 ghost use lib.ListN.{getD};
 ghost use Rattle.amounts.specs.Decline.{check, checked, range};
 ghost use Rattle.amounts.specs.Loss as losses;
+ghost use Rattle.post.specs.declared.kind.Measure.the-variants.{Content};
 ghost use Rattle.post.specs.Moves.{floatsUnused, measured, moveOf, moveAt, answer};
 use crate::fields;
 use crate::fields::Post;
@@ -68,13 +69,14 @@ fn has_no_floats(p: Post) -> bool
 }
 
 // The management number at a place, 0 where there is none.
-fn number_at(numbers: &[u16; 8], place: u8) -> u16
+fn number_at(numbers: &[u16], place: u8) -> u16
     ensures { λ r. ⌜ r ≡ getD (now (numbers .entry)) place 0 ⌝ }
 {
-    if place >= 8 {
+    let i = place as usize;
+    if i >= numbers.len() {
         return 0;
     }
-    numbers[place as usize]
+    numbers[i]
 }
 
 // An amount where no float is used.
@@ -87,8 +89,8 @@ fn stated(p: Post, n: u64) -> Loss
     Loss::Declined(decline::RANGE)
 }
 
-fn measure(m: Measure, numbers: &[u16; 8], p: Post) -> Loss
-    requires { ⌜ p .quantity * p .content < 2 ^ 64 ⌝ }
+fn measure(m: Measure, numbers: &[u16], p: Post) -> Loss
+    requires { ⌜ (m ≡ Content → p .quantity * p .content < 2 ^ 64) ⌝ }
     ensures { λ r. ⌜ losses.answer r ≡ measured m (now (numbers .entry)) p ⌝ }
 {
     match m {
@@ -131,7 +133,7 @@ fn move_of(does: Does, p: Post, n: u64) -> Move
 }
 
 // What the bytes of a post move, by an outline and the management numbers: declined by 6 to 9.
-pub fn read_move(o: Outline, numbers: &[u16; 8], s: &[u8]) -> MoveRead
+pub fn read_move(o: Outline, numbers: &[u16], s: &[u8]) -> MoveRead
     ensures { λ r. ⌜ answer r ≡ moveAt o (now (numbers .entry)) (now (s .entry)) ⌝ }
 {
     if s.len() != 48 {

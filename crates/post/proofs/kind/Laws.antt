@@ -1,6 +1,6 @@
 -- What the table of kinds tells. Assumes nothing.
 use mathlib.Core.Path.{_≡_, refl, sym, subst, ap, _∙_}
-use mathlib.Core.Bool.{Bool, true, false, _&&_}
+use mathlib.Core.Bool.{Bool, true, false}
 use mathlib.Core.List.{List, [], _∷_}
 use Prim.Native.Nat.{ℕ, _*_, _≤_, _<_}
 use native.Mathlib.Nat.{mul-le-mul}
@@ -8,10 +8,8 @@ use native.Mathlib.Omega.{arith}
 use borrow.Author.Tests.{ltb-true, ne-eqb}
 use lib.Dec.{eqb, leb, ltb}
 use Rattle.amounts.specs.Decline.{Answer, taken, declined, layout}
-use Rattle.layout.specs.Setup.{within}
 use Rattle.layout.specs.declared.outline.Outline.{Outline}
 use Rattle.layout.proofs.Each.{and-true}
-use Rattle.layout.proofs.setup.Laws.{within-true}
 use Rattle.post.specs.Kind.{Row, below, contents, grams, micrograms, inSpan, fieldsFit, rows, rowIf, find, kindOf, limited}
 use Rattle.post.specs.declared.fields.Post.{Post}
 use Rattle.post.specs.declared.kind.Does.{Does}
@@ -28,27 +26,30 @@ use Rattle.post.specs.declared.kind.Span.{Span}
 pub known : (o : Outline) (n m : ℕ) (k : Answer Kind) → n ≡ m → k ≡ limited o (kindOf m) → k ≡ limited o (kindOf n)
 known o n m k e h = subst (λ (i : ℕ). k ≡ limited o (kindOf i)) (sym e) h
 
--- each row's number is from 1 to 13
-abbrev numbered : List Row → Bool
-numbered [] = true
-numbered (r ∷ rs) = within 1 13 (r .number) && numbered rs
+-- a number is no row's, said as a match on it leaves it: a tuple that grows to the right
+abbrev Others : ℕ → List Row → Type 0 → Type 0
+Others n [] N = N
+Others n (r ∷ rs) N = Others n rs (N × (n ≡ r .number → ⊥))
 
-missing : (n : ℕ) (rs : List Row) → (1 ≤ n → 13 < n) → numbered rs ≡ true → find n rs ≡ declined layout
+earlier : (n : ℕ) (rs : List Row) (N : Type 0) → Others n rs N → N
+earlier n [] N h = h
+earlier n (r ∷ rs) N h = earlier n rs (N × (n ≡ r .number → ⊥)) h .0
+
+missing : (n : ℕ) (rs : List Row) (N : Type 0) → Others n rs N → find n rs ≡ declined layout
 unfolding find
-missing n [] h t = refl
-missing n (r ∷ rs) h t =
-    let a = and-true (within 1 13 (r .number)) (numbered rs) t in
-    let b = within-true 1 13 (r .number) (a .0) in
-    rw (ne-eqb (r .number) n (λ e. omega (arith, b, h (omega (arith, b))))) (missing n rs h (a .1))
+missing n [] N h = refl
+missing n (r ∷ rs) N h =
+    rw (ne-eqb (r .number) n (λ e. earlier n rs (N × (n ≡ r .number → ⊥)) h .1 (sym e)))
+    (missing n rs (N × (n ≡ r .number → ⊥)) h)
 
 -- one that isn't has none
-pub unknown : (o : Outline) (n : ℕ) → (1 ≤ n → 13 < n) → declined 6 ≡ limited o (kindOf n)
-unfolding kindOf rows
-unknown o n h = rw (missing n rows h refl)
+pub unknown : (o : Outline) (n : ℕ) → Others n rows Unit → declined 6 ≡ limited o (kindOf n)
+unfolding kindOf
+unknown o n h = rw (missing n rows Unit h)
 
 -- a number that has none is refused by 6 alone
 pub only-six : (n m : ℕ) → kindOf n ≡ declined m → m ≡ layout
-unfolding kindOf
+unfolding kindOf find
 only-six n m e = go rows e
   where
     pick : (t : Bool) (r : Row) (x : Answer Row) → (x ≡ declined m → m ≡ layout) → rowIf t r x ≡ declined m → m ≡ layout
@@ -56,7 +57,6 @@ only-six n m e = go rows e
     pick false r x h f = h f
 
     go : (rs : List Row) → find n rs ≡ declined m → m ≡ layout
-    unfolding find
     go [] f = cc
     go (r ∷ rs) f = pick (eqb (r .number) n) r (find n rs) (go rs) f
 
@@ -107,7 +107,7 @@ all-well o =
     (refl, tt)))))))))))))
 
 pub well : (o : Outline) (n : ℕ) (r : Row) → kindOf n ≡ taken r → Well o (r .does) (r .measure) (r .limits o)
-unfolding kindOf
+unfolding kindOf find
 well o n r e = go rows (all-well o) e
   where
     pick : (t : Bool) (q : Row) (x : Answer Row) → Well o (q .does) (q .measure) (q .limits o) → (x ≡ taken r → Well o (r .does) (r .measure) (r .limits o)) → rowIf t q x ≡ taken r
@@ -116,7 +116,6 @@ well o n r e = go rows (all-well o) e
     pick false q x w h f = h f
 
     go : (rs : List Row) → AllWell o rs → find n rs ≡ taken r → Well o (r .does) (r .measure) (r .limits o)
-    unfolding find
     go [] w f = let z : _≡_ {A = ℕ} 0 1 = cc in absurd (omega arith)
     go (q ∷ rs) w f = pick (eqb (q .number) n) q (find n rs) (w .0) (go rs (w .1)) f
 
@@ -152,3 +151,17 @@ product-small q c h g =
     let b : c ≤ 1000000 = omega arith in
     let l : q * c ≤ 2000000000 * 1000000 = mul-le-mul a b in
     omega arith
+
+-- so that it fits 64 bits wherever a row asks for it
+pub product-fits : (o : Outline) (d : Does) (m : Measure) (l : Limits) (p : Post) → Well o d m l → m ≡ Content → Under l p → p .quantity * p .content ≤ 2000000000000000
+product-fits o d m l p w e u = go d (subst (λ (i : Measure). Well o d i l) e w)
+  where
+    pairs : (account : ℕ) → Pairs o account Content l → p .quantity * p .content ≤ 2000000000000000
+    pairs account h = product-small (p .quantity) (p .content) (rw (h .1 .1 .1 .1) at (u .quantity)) (rw (h .1 .1 .1 .0) at (u .content))
+
+    go : (x : Does) → Well o x Content l → p .quantity * p .content ≤ 2000000000000000
+    go Receives h = absurd (h .1)
+    go Issues h = absurd (h .1 .1)
+    go (Brings account) h = pairs account h
+    go (Leaves account) h = pairs account h
+    go Closes h = let z : _≡_ {A = ℕ} 0 1 = cc in absurd (omega arith)

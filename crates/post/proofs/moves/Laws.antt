@@ -10,7 +10,7 @@ use lib.ListN.{length}
 use Rattle.amounts.specs.Binary64.{valueOf}
 use Rattle.amounts.specs.Decline.{Answer, taken, declined, check, checked, onTaken, layout, range}
 use Rattle.amounts.proofs.decline.Laws.{one-taken, was-taken}
-use Rattle.amounts.proofs.loss.Laws.{over-small}
+use Rattle.amounts.proofs.loss.Laws.{over-bounded}
 use Rattle.layout.specs.declared.outline.Outline.{Outline}
 use Rattle.post.specs.Fields.{postAt}
 use Rattle.post.specs.Kind.{Row, fieldsFit, kindOf, kindAt, limited}
@@ -93,7 +93,7 @@ module _ (o : Outline) (numbers : List ℕ) (p : Post) (r : Row) (n : ℕ) (told
   amount-of Content e q =
       let low = product-small (p .quantity) (p .content) (rw (q .1) at (u .quantity)) (rw (q .0) at (u .content)) in
       omega (arith, stated-amount (floatsUnused p) (p .quantity * p .content) n e)
-  amount-of Loss e q = over-small _ _ _ _ _ _ n e
+  amount-of Loss e q = over-bounded _ _ _ _ _ _ n e
 
   fits-by : (d : Does) → Well o d (r .measure) (r .limits o) → Fits o (moveOf d p n)
   fits-by Receives w = (rw (w .0) at (u .material), grams-of (r .measure) told (w .1))

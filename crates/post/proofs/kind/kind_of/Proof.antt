@@ -1,7 +1,6 @@
 use mathlib.Core.Path.{refl, ap}
-use native.Mathlib.Omega.{arith}
 use Rattle.amounts.specs.Decline.{taken}
-use Rattle.post.specs.Kind.{kindOf}
+use Rattle.post.specs.Kind.{rows, kindOf}
 use Rattle.post.proofs.kind.Laws.{known, unknown}
 use borrow.Author.Needs.{needs}
 use Rattle.post.proofs.kind.kind_of.Statement.{statement}
@@ -96,7 +95,8 @@ unfolding kindOf
 returns-13 c = let a = c .before .args in known (a .o) (a .number) 13 _ (c .match .keys13) refl
 
 returns-14 : tie.Need-returns-14
-returns-14 c = let a = c .before .args in unknown (a .o) (a .number) (λ l. omega (arith, c .match .rest))
+unfolding rows
+returns-14 c = let a = c .before .args in unknown (a .o) (a .number) (c .match .rest)
 
 pub kind-of-spec : {M : Type 1} → statement M
 kind-of-spec =

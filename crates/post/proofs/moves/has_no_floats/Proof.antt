@@ -1,41 +1,31 @@
+use Rattle.layout.proofs.verdict.Laws.{holds, misses}
 use borrow.Author.Needs.{needs}
 use Rattle.post.proofs.moves.has_no_floats.Statement.{statement}
 use Rattle.post.proofs.moves.has_no_floats.Tie as tie
-use Rattle.post.proofs.moves.has_no_floats.Reads as reads
-use Rattle.post.proofs.moves.has_no_floats.Lts as lts
-use Rattle.amounts.proofs.pattern.is_zero.Reads as is-zero-reads
 
--- src/moves.rt:56:9
 is-zero-requires : tie.Need-is-zero-requires
 is-zero-requires c κs = search needs
 
--- src/moves.rt:57:9
 returns : tie.Need-returns
-returns c = ?
+returns c = rw (misses (c .before .is-zero .ensures) (c .if1 .taken))
 
--- src/moves.rt:59:9
 is-zero-requires-2 : tie.Need-is-zero-requires-2
 is-zero-requires-2 c κs = search needs
 
--- src/moves.rt:60:9
 returns-2 : tie.Need-returns-2
-returns-2 c = ?
+returns-2 c = let k = c .before .before in rw (holds (k .before .is-zero .ensures) (k .if1 .left), misses (c .before .is-zero2 .ensures) (c .if2 .taken))
 
--- src/moves.rt:62:9
 is-zero-requires-3 : tie.Need-is-zero-requires-3
 is-zero-requires-3 c κs = search needs
 
--- src/moves.rt:63:9
 returns-3 : tie.Need-returns-3
-returns-3 c = ?
+returns-3 c = let k = c .before .before in let l = k .before .before in rw (holds (l .before .is-zero .ensures) (l .if1 .left), holds (k .before .is-zero2 .ensures) (k .if2 .left), misses (c .before .is-zero3 .ensures) (c .if3 .taken))
 
--- src/moves.rt:65:5
 is-zero-requires-4 : tie.Need-is-zero-requires-4
 is-zero-requires-4 c κs = search needs
 
--- src/moves.rt:53:1
 returns-4 : tie.Need-returns-4
-returns-4 c = ?
+returns-4 c = let j = c .before in let k = j .before .before in let l = k .before .before in rw (holds (l .before .is-zero .ensures) (l .if1 .left), holds (k .before .is-zero2 .ensures) (k .if2 .left), holds (j .before .is-zero3 .ensures) (j .if3 .left)) (c .is-zero4 .ensures)
 
 pub has-no-floats-spec : {M : Type 1} → statement M
 has-no-floats-spec =

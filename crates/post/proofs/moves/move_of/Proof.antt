@@ -1,74 +1,55 @@
 use borrow.Author.Needs.{needs}
 use Rattle.post.proofs.moves.move_of.Statement.{statement}
 use Rattle.post.proofs.moves.move_of.Tie as tie
-use Rattle.post.proofs.moves.move_of.Reads as reads
-use Rattle.post.proofs.moves.move_of.Lts as lts
 
--- src/moves.rt:100:23
 enum-told : tie.Need-enum-told
 enum-told c = search needs
 
--- src/moves.rt:100:23
 cast-t7 : tie.Need-cast-t7
 cast-t7 c = search needs
 
--- src/moves.rt:104:23
 enum-told-2 : tie.Need-enum-told-2
 enum-told-2 c = search needs
 
--- src/moves.rt:104:23
 cast-t8 : tie.Need-cast-t8
 cast-t8 c = search needs
 
--- src/moves.rt:105:20
 cast-t9 : tie.Need-cast-t9
 cast-t9 c = search needs
 
--- src/moves.rt:108:22
 enum-known-does : tie.Need-enum-known-does
 enum-known-does c = search needs
 
--- src/moves.rt:110:20
 cast-t10 : tie.Need-cast-t10
 cast-t10 c = search needs
 
--- src/moves.rt:111:24
 cast-t11 : tie.Need-cast-t11
 cast-t11 c = search needs
 
--- src/moves.rt:114:22
 enum-known-does-2 : tie.Need-enum-known-does-2
 enum-known-does-2 c = search needs
 
--- src/moves.rt:116:20
 cast-t12 : tie.Need-cast-t12
 cast-t12 c = search needs
 
--- src/moves.rt:117:24
 cast-t13 : tie.Need-cast-t13
 cast-t13 c = search needs
 
--- src/moves.rt:120:25
 enum-told-3 : tie.Need-enum-told-3
 enum-told-3 c = search needs
 
--- src/moves.rt:95:1
 returns : tie.Need-returns
-returns c = ?
+returns c = rw (c .before .enum-told .given .1)
 
--- src/moves.rt:95:1
 returns-2 : tie.Need-returns-2
-returns-2 c = ?
+returns-2 c = rw (c .before .before .enum-told2 .given .1)
 
--- src/moves.rt:95:1
 returns-3 : tie.Need-returns-3
-returns-3 c = ?
+returns-3 c = rw (c .before .before .before .does .given .1)
 
--- src/moves.rt:95:1
 returns-4 : tie.Need-returns-4
-returns-4 c = ?
+returns-4 c = rw (c .before .before .before .does2 .given .1)
 
--- src/moves.rt:95:1
 returns-5 : tie.Need-returns-5
 returns-5 c = search needs
 
