@@ -1,10 +1,8 @@
-pub mod Amount
 pub mod Ledger
 pub mod Site
 pub mod Answer
+pub mod Entry
 pub mod Setup
 pub mod Stage
-pub mod Entered
-pub mod Posting
-pub mod Report
 pub mod Posts
+pub mod Steps

@@ -1,10 +1,5 @@
-// The book of one site for one year: its set-up, its posts and its reports.
-pub mod amount;
+// The book of one site for one year: its set-up, its posts, its blocks and whole journals.
 pub mod answer;
+pub mod entry;
 pub mod ledger;
-pub mod posting;
-pub mod posts;
-pub mod report;
-pub mod setup;
 pub mod site;
-pub mod stage;

@@ -10,10 +10,9 @@ use lib.Dec.{eqb}
 use lib.ListN.{length, getD, set, length-set}
 use lib.Seq.{getD-set-same, getD-set-other}
 use Rattle.layout.specs.Each.{sumTo, putTo}
-use Rattle.layout.specs.Setup.{noRates}
-use Rattle.layout.specs.declared.setup.Rates.{Rates}
 use Rattle.layout.proofs.Each.{put-again, length-put, put-other, put-at, sum-same, sum-point, term-le}
-use Rattle.book.specs.Ledger.{held, water, gas, at, cellOf, cell, total, moved, raised, closesTo, settled}
+use Rattle.post.specs.Account.{held, water, gas}
+use Rattle.book.specs.Ledger.{at, cellOf, cell, total, moved, raised, closesTo, settled}
 
 -- ---- one write
 
@@ -102,41 +101,41 @@ module _ (l : List ℕ) (account pair n : ℕ) (ha : account < 9) (hp : pair < 6
 
 -- ---- the close
 
-pub closes-below : (r : Rates) → closesTo r < 9
+pub closes-below : (side : ℕ) → closesTo side < 9
 unfolding closesTo
-closes-below r = go (eqb (r .side) 2)
+closes-below side = go (eqb side 2)
   where
     go : (t : Bool) → cond t water gas < 9
     go true = omega arith
     go false = omega arith
 
-module _ (l : List ℕ) (rates : List Rates) where
-  settled-again : (k : ℕ) → settled l rates (k + 1) ≡ moved (settled l rates k) (at held k) (at (closesTo (getD rates k noRates)) k) (getD (settled l rates k) (at held k) 0)
+module _ (l sides : List ℕ) where
+  settled-again : (k : ℕ) → settled l sides (k + 1) ≡ moved (settled l sides k) (at held k) (at (closesTo (getD sides k 0)) k) (getD (settled l sides k) (at held k) 0)
   unfolding settled
   settled-again k = rw add-one
 
   -- one pair more
-  pub settled-more : (k : ℕ) (out : List ℕ) (to : ℕ) → out ≡ settled l rates k → to ≡ closesTo (getD rates k noRates) → moved out (at held k) (at to k) (getD out (at held k) 0) ≡ settled l rates (k + 1)
+  pub settled-more : (k : ℕ) (out : List ℕ) (to : ℕ) → out ≡ settled l sides k → to ≡ closesTo (getD sides k 0) → moved out (at held k) (at to k) (getD out (at held k) 0) ≡ settled l sides (k + 1)
   settled-more k out to e w =
       ap (λ (x : List ℕ). moved x (at held k) (at to k) (getD x (at held k) 0)) e
-      ∙ ap (λ (x : ℕ). moved (settled l rates k) (at held k) (at x k) (getD (settled l rates k) (at held k) 0)) w
+      ∙ ap (λ (x : ℕ). moved (settled l sides k) (at held k) (at x k) (getD (settled l sides k) (at held k) 0)) w
       ∙ sym (settled-again k)
 
-  pub length-settled : (k : ℕ) → length (settled l rates k) ≡ length l
+  pub length-settled : (k : ℕ) → length (settled l sides k) ≡ length l
   unfolding settled
   length-settled zero = refl
-  length-settled (suc k) = length-moved (settled l rates k) (at held k) (at (closesTo (getD rates k noRates)) k) (getD (settled l rates k) (at held k) 0) ∙ length-settled k
+  length-settled (suc k) = length-moved (settled l sides k) (at held k) (at (closesTo (getD sides k 0)) k) (getD (settled l sides k) (at held k) 0) ∙ length-settled k
 
   -- closing keeps every total
-  pub total-settled : (k t : ℕ) → k ≤ 64 → t < 8 → length l ≡ 576 → total (settled l rates k) t ≡ total l t
+  pub total-settled : (k t : ℕ) → k ≤ 64 → t < 8 → length l ≡ 576 → total (settled l sides k) t ≡ total l t
   unfolding settled
   total-settled zero t hk ht long = refl
   total-settled (suc k) t hk ht long =
-      total-moved-at (settled l rates k) (closesTo (getD rates k noRates)) k (getD (settled l rates k) (at held k) 0) (closes-below (getD rates k noRates)) (omega arith) (length-settled k ∙ long) (omega arith) t ht
+      total-moved-at (settled l sides k) (closesTo (getD sides k 0)) k (getD (settled l sides k) (at held k) 0) (closes-below (getD sides k 0)) (omega arith) (length-settled k ∙ long) (omega arith) t ht
       ∙ total-settled k t (omega arith) ht long
 
   -- what a pair's account then holds is within what bounds the totals
-  pub settled-room : (k : ℕ) (out : List ℕ) (to most : ℕ) → out ≡ settled l rates k → k < 64 → to < 9 → length l ≡ 576 → ((s : ℕ) → s < 8 → total l s < most) → getD (set out (at held k) (getD out (at held k) 0 - getD out (at held k) 0)) (at to k) 0 + getD out (at held k) 0 < most
+  pub settled-room : (k : ℕ) (out : List ℕ) (to most : ℕ) → out ≡ settled l sides k → k < 64 → to < 9 → length l ≡ 576 → ((s : ℕ) → s < 8 → total l s < most) → getD (set out (at held k) (getD out (at held k) 0 - getD out (at held k) 0)) (at to k) 0 + getD out (at held k) 0 < most
   settled-room k out to most e hk ht long few =
       let stays : length out ≡ 576 = ap length e ∙ length-settled k ∙ long in
       omega (

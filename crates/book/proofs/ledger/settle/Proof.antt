@@ -1,18 +1,18 @@
 -- The pairs passed are closed.
 use mathlib.Core.Path.{_≡_, ap, _∙_}
 use Prim.Native.Nat.{_-_, _≤_, _<_}
-use borrow.Author.Needs.{needs}
 use native.Mathlib.Omega.{arith}
+use borrow.Author.Needs.{needs}
 use Rattle.book.specs.Ledger.{settled}
 use Rattle.book.proofs.ledger.Laws.{closes-below, settled-more, settled-room}
 use Rattle.book.proofs.ledger.settle.Statement.{statement}
 use Rattle.book.proofs.ledger.settle.Tie as tie
 
 abbrev Inv-loop : tie.InvT-loop
-Inv-loop sums₀ rates pair₀ sums pair = (pair ≤ 64) × (sums ≡ settled sums₀ rates pair)
+Inv-loop sums₀ sides pair₀ sums pair = (pair ≤ 64) × (sums ≡ settled sums₀ sides pair)
 
 abbrev μ-loop : tie.MeasureT-loop
-μ-loop sums₀ rates pair₀ sums pair = 64 - pair
+μ-loop sums₀ sides pair₀ sums pair = 64 - pair
 
 small : (c : tie.After-closes-to Inv-loop μ-loop) → c .closes-to .result < 9
 small c = rw (c .closes-to .ensures) (closes-below _)
@@ -21,11 +21,8 @@ loop-holds : tie.Need-loop-holds Inv-loop μ-loop
 unfolding settled
 loop-holds c = search needs
 
-mul-row : tie.Need-mul-row Inv-loop μ-loop
-mul-row c = search needs
-
-array-copy-out-row : tie.Need-array-copy-out-row Inv-loop μ-loop
-array-copy-out-row c = search needs
+element-copy-out-closes-to : tie.Need-element-copy-out-closes-to Inv-loop μ-loop
+element-copy-out-closes-to c = search needs
 
 closes-to-requires : tie.Need-closes-to-requires Inv-loop μ-loop
 closes-to-requires c κs = search needs
@@ -54,7 +51,8 @@ shift-requires c κs =
     let l = t .before .before .before in
     let pre = l .before .pre in (
       (omega arith, omega (arith, small t), omega arith),
-      settled-room (l .before .args .sums .now) (l .before .args .t2) (l .loop .pair) (l .loop .sums) (t .closes-to .result) 18446744073709551616 (l .loop .inv .1) (omega arith) (small t) (pre .1) (pre .0),
+      settled-room (l .before .args .sums .now) (l .before .args .sides .now) (l .loop .pair) (l .loop .sums) (t .closes-to .result) 18446744073709551616 (l .loop .inv .1)
+      (omega arith) (small t) (pre .1) (pre .0),
     )
 
 add-pair : tie.Need-add-pair Inv-loop μ-loop
@@ -68,14 +66,15 @@ loop-again c =
     let t = c .before .before .before in
     let l = t .before .before .before in (
       search needs,
-      c .shift .ensures ∙ settled-more (l .before .args .sums .now) (l .before .args .t2) (l .loop .pair) (l .loop .sums) (t .closes-to .result) (l .loop .inv .1) (t .closes-to .ensures),
+      c .shift .ensures
+      ∙ settled-more (l .before .args .sums .now) (l .before .args .sides .now) (l .loop .pair) (l .loop .sums) (t .closes-to .result) (l .loop .inv .1) (t .closes-to .ensures),
     )
 
 returns : tie.Need-returns Inv-loop μ-loop
 returns c =
     let l = c .before in
     let e : l .loop .pair ≡ 64 = omega arith in
-    l .loop .inv .1 ∙ ap (λ k. settled (l .before .args .sums .now) (l .before .args .t2) k) e
+    l .loop .inv .1 ∙ ap (settled (l .before .args .sums .now) (l .before .args .sides .now)) e
 
 pub settle-spec : {M : Type 1} → statement M
 settle-spec =
@@ -84,8 +83,7 @@ settle-spec =
     Inv-loop
     μ-loop
     loop-holds
-    mul-row
-    array-copy-out-row
+    element-copy-out-closes-to
     closes-to-requires
     mul-to
     add-to

@@ -1,0 +1,33 @@
+-- What only follows the code's steps. No promise rests on these definitions.
+use Prim.Native.Nat.{ℕ, _*_, _^_, _≤_, _<_}
+use mathlib.Core.Path.{_≡_}
+use mathlib.Core.Bool.{Bool, true}
+use mathlib.Core.List.{List}
+use lib.ListN.{length, getD}
+use Rattle.layout.specs.declared.outline.Outline.{Outline}
+use Rattle.post.specs.Moves.{Fits}
+use Rattle.post.specs.declared.moves.Move.{Move}
+use Rattle.book.specs.Entry.{isThere, storeAfter, sumsAfter, handledAfter}
+use Rattle.book.specs.Ledger.{total}
+
+-- ---- a move entered in the lists of a year
+
+-- the outline that no other exceeds
+abbrev pub widest : Outline
+widest = record { substances = 8; materials = 12; stages = 8; described = 8 }
+
+-- what keeps each sum of a move within 64 bits
+pub record Room (counted store sums handled : List ℕ) (m : Move) : Type 0 where
+  pub fits : Fits widest m
+  pub counted-small : (i : ℕ) → getD counted i 0 ≤ 1000000
+  pub stores : (i : ℕ) → i < 12 → getD store i 0 ≤ 2 * 10 ^ 9 * 4000
+  pub sums-long : length sums ≡ 576
+  pub totals : (s : ℕ) → s < 8 → total sums s ≤ 2 * 10 ^ 15 * 4000
+  pub handled-few : (s : ℕ) → s < 8 → getD handled s 0 ≤ 2 * 10 ^ 15 * 4000
+
+-- whether what leaves was there, and the lists where it was
+pub record Entered (counted sides store sums handled : List ℕ) (m : Move) (store' sums' handled' : List ℕ) (r : Bool) : Type 0 where
+  pub there : r ≡ isThere store sums m
+  pub store-is : r ≡ true → store' ≡ storeAfter store m
+  pub sums-is : r ≡ true → sums' ≡ sumsAfter counted sides sums m
+  pub handled-is : r ≡ true → handled' ≡ handledAfter counted handled m
