@@ -3,7 +3,7 @@ use mathlib.Core.Path.{_≡_, refl, sym, ap, _∙_}
 use mathlib.Core.Bool.{Bool, true, false}
 use mathlib.Core.List.{[], _∷_}
 use lib.Ieee.{Float}
-use Rattle.amounts.specs.Decline.{Answer, taken, declined, check, checked, onTaken, range}
+use Rattle.amounts.specs.Decline.{Answer, taken, check, checked, onTaken, range}
 use Rattle.amounts.specs.Form.{inRanges, ranged, inputsOf, inputsAnswer}
 use Rattle.amounts.specs.declared.form.Inputs.{Inputs}
 use Rattle.amounts.specs.declared.form.InputsRead.{InputsRead}
