@@ -8,7 +8,7 @@ use crate::pattern;
 use crate::pattern::FloatRead;
 use crate::pattern::Range;
 
-pub enum LossForm {
+pub(crate) enum LossForm {
     FloatingRoof {
         diameter: f64,
         content: f64,
@@ -28,26 +28,26 @@ pub enum LossForm {
     },
 }
 
-pub struct Ranges {
-    pub w: Range,
-    pub u: Range,
-    pub p: Range,
-    pub q: Range,
+struct Ranges {
+    w: Range,
+    u: Range,
+    p: Range,
+    q: Range,
 }
 
-pub struct Inputs {
-    pub w: f64,
-    pub u: f64,
-    pub p: f64,
-    pub q: f64,
+struct Inputs {
+    w: f64,
+    u: f64,
+    p: f64,
+    q: f64,
 }
 
-pub enum InputsRead {
+enum InputsRead {
     Values(Inputs),
     Declined(Decline),
 }
 
-pub enum FormRead {
+pub(crate) enum FormRead {
     Form(LossForm),
     Declined(Decline),
 }

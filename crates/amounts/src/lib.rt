@@ -4,7 +4,7 @@ pub mod coefficient;
 pub mod content;
 pub mod decline;
 pub mod filed;
-pub mod form;
+mod form;
 pub mod loss;
 pub mod pattern;
 pub mod threshold;

@@ -14,7 +14,7 @@ use crate::form::FormRead;
 use crate::form::LossForm;
 use crate::whole;
 
-pub enum Kg {
+enum Kg {
     Value(f64),
     Declined(Decline),
 }

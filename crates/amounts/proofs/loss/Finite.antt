@@ -314,7 +314,8 @@ station-within w u p q h =
     add-within (mul-within (billion (r .0)) (billion (r .1)) (lit≤ tt)) (mul-within (billion (r .2)) (billion (r .3)) (lit≤ tt)) (lit≤ tt)
 
 -- what is taken with a row is taken with one that was found
-taken-within : {n : ℕ} (found : Answer CoefficientRow) (f : CoefficientRow → Float) (x : Float) → ((row : CoefficientRow) → found ≡ taken row → Within n (f row)) → onTaken found (λ row. taken (f row)) ≡ taken x → Within n x
+taken-within : {n : ℕ} (found : Answer CoefficientRow) (f : CoefficientRow → Float) (x : Float)
+    → ((row : CoefficientRow) → found ≡ taken row → Within n (f row)) → onTaken found (λ row. taken (f row)) ≡ taken x → Within n x
 taken-within {n} (taken row) f x h e = let same : f row ≡ x = cc in subst (Within n) same (h row refl)
 taken-within (declined d) f x h e = let z : _≡_ {A = ℕ} 0 1 = cc in absurd (omega arith)
 
@@ -324,7 +325,9 @@ pub kg-finite : (form : ℕ) (found : Answer CoefficientRow) (w u p q : Float) (
 unfolding formOf ranged
 kg-finite form found w u p q f x c = go (eqb form 1) (eqb form 2) (eqb form 3)
   where
-    go : (a b d : Bool) → cond a (ranged floatingRanges w u p q (FloatingRoof w u p)) (cond b (ranged fixedRanges w u p q (FixedRoof w u p q)) (cond d (ranged stationRanges w u p q (Station w u p q)) (declined layout))) ≡ taken f
+    go : (a b d : Bool)
+        → cond a (ranged floatingRanges w u p q (FloatingRoof w u p)) (cond b (ranged fixedRanges w u p q (FixedRoof w u p q))
+        (cond d (ranged stationRanges w u p q (Station w u p q)) (declined layout))) ≡ taken f
         → kgOf f found ≡ taken x → (finite x ≡ true) × (le (whole 0) x ≡ true)
     go true b d h e =
         let z = one-taken (inRanges floatingRanges w u p q) range (FloatingRoof w u p) f (sym h) in

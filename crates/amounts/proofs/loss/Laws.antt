@@ -2,7 +2,7 @@
 use mathlib.Core.Path.{_≡_, refl, sym, ap, _∙_, subst}
 use mathlib.Core.Bool.{Bool, true, false, cond}
 use mathlib.Core.List.{[], _∷_}
-use Prim.Native.Nat.{ℕ, zero, suc, _+_, _-_, _*_, _/_, _^_, _≤_, _<_, min, zero-le}
+use Prim.Native.Nat.{ℕ, zero, suc, _+_, _-_, _*_, _/_, _^_, _≤_, min, zero-le}
 use native.Mathlib.Nat.{le-of-eq, le-trans, div-le-of-le-mul, mul-pos}
 use native.Mathlib.Omega.{arith}
 use lib.Dec.{T, leb, ltb, lit<}

@@ -1,19 +1,19 @@
 -- Which patterns of 64 bits are finite: those that, without the sign, lie below 0x7ff0_0000_0000_0000. Assumes nothing.
 use mathlib.Core.Path.{_≡_, refl, sym, ap, _∙_, subst}
-use mathlib.Core.Bool.{Bool, true, false, not, _&&_, _||_, cond}
+use mathlib.Core.Bool.{Bool, true, false, not, _&&_, cond, true≢false, false≢true}
 use Prim.Native.Nat.{ℕ, zero, suc, _+_, _*_, _%_, _/_, _≤_, _<_, _^_}
 use native.Mathlib.Nat.{mul-pos, zero-lt-suc}
 use native.Mathlib.Omega.{arith}
 use lib.IntN.{ℤ}
 use lib.Dec.{T, eqb, leb, eqb·suc-zero}
 use lib.Pow.{pow-pos}
-use lib.Ieee.{Float, nan, inf, fin, binary64, up, down, below, level, odd, ofFields, ofBits, nanBits, le, lt, eq, round}
+use lib.Ieee.{Float, nan, inf, fin, binary64, up, down, odd, ofFields, ofBits, nanBits, le, round}
 use lib.Ieee.Exact.{HasValue, odd-sign}
 use lib.Ieee.Fits.{down-pos}
 use lib.Ieee.Positive.{first-pos}
 use lib.Ieee.Bits.{nanBits-above}
-use borrow.Author.Tests.{eq-eqb, ne-eqb, lt-ltb, le-ltb}
-use Rattle.amounts.specs.Binary64.{finite, valueOf}
+use borrow.Author.Tests.{eq-eqb, ne-eqb, le-ltb}
+use Rattle.amounts.specs.Binary64.{whole, finite, valueOf}
 use Rattle.amounts.specs.Pattern.{_to_, inRange, readingOf, answer}
 use Rattle.amounts.specs.declared.decline.Decline.{Decline}
 use Rattle.amounts.specs.declared.pattern.Range.{Range}
@@ -54,20 +54,35 @@ module _ (b : ℕ) where
 
 -- ---- which patterns are zero: those of which nothing but the sign is set
 
--- a size above zero is not from zero to zero
-above-zero : (x : Float) (s : Bool) (a l : ℕ) → HasValue x s a (2 ^ l) → 0 < a → inRange (0 to 0) x ≡ false
-unfolding le lt eq round
-above-zero (fin s m e) t a l v A = go s (m * up e) (down e) (first-pos (m * up e) (2 ^ l) (subst (λ (k : ℕ). 0 < k) (sym (v .1)) (mul-pos A (down-pos e))))
+-- the size of a value, by any fraction that it equals
+size : (m : ℕ) (e : ℤ) (a l : ℕ) → m * up e * 2 ^ l ≡ a * down e → 0 < a → 0 < m * up e
+size m e a l v A = first-pos (m * up e) (2 ^ l) (subst (λ (k : ℕ). 0 < k) (sym v) (mul-pos A (down-pos e)))
+
+-- what is below zero, and what is above it
+pub below-zero : (x : Float) (a l : ℕ) → HasValue x true a (2 ^ l) → 0 < a → le (whole 0) x ≡ false
+unfolding le round
+below-zero (fin false m e) a l v A = absurd (false≢true (v .0))
+below-zero (fin true m e) a l v A = rw (ne-eqb (0 * down e) (m * up e * 1) (λ (z : 0 * down e ≡ m * up e * 1). omega (arith, size m e a l (v .1) A)))
+
+over-zero : (x : Float) (a l : ℕ) → HasValue x false a (2 ^ l) → 0 < a → le x (whole 0) ≡ false
+unfolding le round
+over-zero (fin true m e) a l v A = absurd (true≢false (v .0))
+over-zero (fin false m e) a l v A =
+    rw (le-ltb (m * up e * 1) (0 * down e) (omega arith), ne-eqb (m * up e * 1) (0 * down e) (λ (z : m * up e * 1 ≡ 0 * down e). omega (arith, size m e a l (v .1) A)))
+
+not-zero : (x : Float) (s : Bool) (a l : ℕ) → HasValue x s a (2 ^ l) → 0 < a → inRange (0 to 0) x ≡ false
+not-zero (fin t m e) true a l v A = rw (below-zero (fin t m e) a l v A)
+not-zero (fin t m e) false a l v A = rw (over-zero (fin t m e) a l v A) (none (le (whole 0) (fin t m e)))
   where
-    go : (s : Bool) (n d : ℕ) → 0 < n → (below false (0 * d) s (n * 1) || level false (0 * d) s (n * 1)) && (below s (n * 1) false (0 * d) || level s (n * 1) false (0 * d)) ≡ false
-    go true n d h = rw (ne-eqb (0 * d) (n * 1) (λ (e : 0 * d ≡ n * 1). omega arith))
-    go false n d h = rw (lt-ltb (0 * d) (n * 1) (omega arith), le-ltb (n * 1) (0 * d) (omega arith), ne-eqb (n * 1) (0 * d) (λ (e : n * 1 ≡ 0 * d). omega arith))
+    none : (b : Bool) → (b && false) ≡ false
+    none true = refl
+    none false = refl
 
 digits-zero : (d : ℕ) (s : Bool) (q k l : ℕ) → inRange (0 to 0) (odd d s q k l) ≡ eqb q 0
 unfolding odd le round
 digits-zero d true zero k l = refl
 digits-zero d false zero k l = refl
-digits-zero d s (suc q) k l = above-zero (odd d s (suc q) k l) s (suc q * 2 ^ k) l (odd-sign d s (suc q) k l) (mul-pos (zero-lt-suc q) (pow-pos k)) ∙ sym (eqb·suc-zero q)
+digits-zero d s (suc q) k l = not-zero (odd d s (suc q) k l) s (suc q * 2 ^ k) l (odd-sign d s (suc q) k l) (mul-pos (zero-lt-suc q) (pow-pos k)) ∙ sym (eqb·suc-zero q)
 
 fields-zero : (s : Bool) (x t : ℕ) → inRange (0 to 0) (ofFields binary64 s x t) ≡ eqb x 0 && eqb t 0
 unfolding ofFields

@@ -1,19 +1,21 @@
 -- The whole part of a float by the fields of its pattern: its shifted digits below 2 ^ 64, and the largest number of 64 bits from there on. From 1 on std has the laws. Assumes nothing.
 use mathlib.Core.Path.{_≡_, refl, sym, ap, _∙_, subst}
-use mathlib.Core.Bool.{Bool, true, false, not, _||_, cond, true≢false}
+use mathlib.Core.Logic.{_⊎_, inl, inr}
+use mathlib.Core.Bool.{Bool, true, false, not, cond, false≢true}
 use Prim.Native.Nat.{ℕ, zero, suc, _+_, _-_, _*_, _/_, _%_, _^_, _≤_, _<_, min, zero-le}
-use native.Mathlib.Nat.{one-mul, le-trans, le-of-eq, lt-of-lt-of-le, lt-of-not-le, le-add-right, mul-comm, mul-le-mul, mul-le-mul-right, le-of-mul-le-mul-right, mod-lt, mod-eq-of-lt, div-eq-of-lt, le-div-iff-mul-le}
+use native.Mathlib.Nat.{le-trans, le-of-eq, lt-of-lt-of-le, lt-of-not-le, le-add-right, one-mul, mul-one, zero-mul, mul-le-mul, mod-lt, mod-eq-of-lt, div-eq-of-lt, le-div-iff-mul-le}
 use native.Mathlib.Omega.{arith}
-use lib.IntN.{ℤ, pos}
-use lib.Dec.{T, eqb, leb, ltb, nltb→le, eqb→eq}
+use lib.Dec.{T, eqb, leb, nltb→le, T-not, lit<}
 use lib.Pow.{pow-add, pow-pos, pow-mono, field}
 use lib.Bits.{bitAnd, bitOr, and-mask, or-shifted-r}
-use lib.Ieee.{Float, nan, inf, fin, binary64, ofFields, ofBits, toBits, odd, up, down, fits, isNan, le, lt, eq, toUnsigned}
+use lib.Ieee.{Float, nan, inf, fin, binary64, ofFields, ofBits, toBits, odd, up, down, fits, isNan, le, lt, eq, round, toUnsigned}
 use lib.Ieee.Exact.{HasValue, odd-sign}
 use lib.Ieee.Bits.{ofBits-toBits}
-use lib.Ieee.Fits.{down-pos, and-l, and-r}
-use Rattle.amounts.specs.Binary64.{finite}
+use lib.Ieee.Fits.{down-pos}
+use lib.Ieee.Order.{le-of-values}
+use Rattle.amounts.specs.Binary64.{whole}
 use Rattle.amounts.specs.Whole.{wholePart}
+use Rattle.amounts.proofs.pattern.Laws.{below-zero}
 use Rattle.std.proofs.num.Truncating.{one, two-to, up-by, cut-down, cut-up, below-one}
 
 -- the code's 0 and 2 ^ 64, by their bit patterns
@@ -22,6 +24,10 @@ nought = ofBits binary64 0
 
 abbrev limit : Float
 limit = ofBits binary64 0x43f0_0000_0000_0000
+
+nought-is : nought ≡ whole 0
+unfolding ofBits round
+nought-is = refl
 
 limit-is : limit ≡ two-to 64
 unfolding ofBits
@@ -33,49 +39,16 @@ yes h = subst T (sym h) tt
 no : {b : Bool} → b ≡ false → T (not b)
 no h = subst (λ (a : Bool). T (not a)) (sym h) tt
 
--- ---- a zero of either sign, or above it
-
-data Upward : Float → Type 0 where
-  infinite : Upward (inf false)
-  plain : (m : ℕ) (e : ℤ) → Upward (fin false m e)
-  minus-zero : (m : ℕ) (e : ℤ) → m * up e ≡ 0 → Upward (fin true m e)
-
-none : (n d : ℕ) → 0 * d ≡ n * 1 → n ≡ 0
-none n d e = omega arith
-
-upward : (x : Float) → le nought x ≡ true → Upward x
-unfolding le lt eq ofBits
-upward nan h = absurd (yes h)
-upward (inf true) h = absurd (yes h)
-upward (inf false) h = infinite
-upward (fin false m e) h = plain m e
-upward (fin true m e) h = minus-zero m e (none (m * up e) (down e) (eqb→eq (0 * down e) (m * up e * 1) (and-l (eqb (0 * down e) (m * up e * 1)) (eqb (0 * down e) 0) (yes h))))
-
--- ---- below 1, and below 0
-
--- a size below 1 has no whole part
-nothing : (n d c : ℕ) → n < d → 0 ≡ min (n / d) c
-nothing n d c h = least (n / d) c (div-eq-of-lt h)
-  where
-    least : (q c : ℕ) → q ≡ 0 → 0 ≡ min q c
-    least q c e = omega arith
-
-not-first : (p q : Bool) → T (not (p || q)) → T (not p)
-not-first false q h = tt
-
-under-zero : (n d : ℕ) → n * 1 ≤ 0 * d → 0 < d → n < d
-under-zero n d h k = omega arith
+-- ---- below 0, and from 2 ^ 64 on
 
 pub negative : (x : Float) → le nought x ≡ false → 0 ≡ wholePart x
-unfolding le lt eq ofBits toUnsigned
+unfolding le ofBits toUnsigned
 negative nan h = refl
 negative (inf true) h = refl
 negative (inf false) h = absurd (no h)
 negative (fin true m e) h = refl
 negative (fin false m e) h =
-    nothing (m * up e) (down e) (2 ^ 64 - 1) (under-zero (m * up e) (down e) (nltb→le (0 * down e) (m * up e * 1) (not-first (ltb (0 * down e) (m * up e * 1)) _ (no h))) (down-pos e))
-
--- ---- from 2 ^ 64 on
+    absurd (T-not (le nought (fin false m e)) (no h) (le-of-values nought (fin false m e) 0 1 (m * up e) (down e) (lit< tt) (down-pos e) (refl, refl) (refl, refl) (rw zero-mul zero-le)))
 
 capped : (q : ℕ) → 18446744073709551616 ≤ q → 18446744073709551615 ≡ min q 18446744073709551615
 capped q h = omega arith
@@ -83,63 +56,45 @@ capped q h = omega arith
 tidy : (n d : ℕ) → 18446744073709551616 * d ≤ n * 1 → 18446744073709551616 * d ≤ n
 tidy n d h = omega arith
 
-no-limit : (n d : ℕ) → 0 < d → n * 1 + 18446744073709551616 * d ≤ 0 → ⊥
-no-limit n d h k = omega arith
-
 pub saturated : (x : Float) → le nought x ≡ true → lt x limit ≡ false → 18446744073709551615 ≡ wholePart x
-unfolding lt toUnsigned
-saturated x a b = go (upward x a) (subst (λ (k : Float). T (not (lt x k))) limit-is (no b))
+unfolding le lt eq ofBits toUnsigned
+saturated nan a b = absurd (yes a)
+saturated (inf true) a b = absurd (yes a)
+saturated (inf false) a b = refl
+saturated (fin false m e) a b =
+    capped (m * up e / down e) (le-div-iff-mul-le (down-pos e) .1 (tidy (m * up e) (down e) (nltb→le (m * up e * 1) (1 * 2 ^ 64 * down e) (no b))))
+saturated (fin true m e) a b = absurd (omega (arith, down-pos e, nltb→le 0 (m * up e * 1 + 1 * 2 ^ 64 * down e) (no b)))
+
+-- ---- below 1, where the exponent's field is at most 1022
+
+units : (j t : ℕ) → 1022 ≤ j → 2 ^ 1074 ≤ (2 ^ 52 + t) * 2 ^ j
+units j t h = le-trans (le-of-eq (pow-add 2 52 1022)) (mul-le-mul (le-add-right (2 ^ 52) t) (pow-mono h))
+
+-- a size of 1 or more is that of a value from 1 on, or of one below 0
+outside : (s : Bool) (x : Float) (a : ℕ) → HasValue x s a (2 ^ 1074) → 2 ^ 1074 ≤ a → le (whole 0) x ≡ true → le one x ≡ false → ⊥
+outside true x a v h p q = false≢true (sym (below-zero x a 1074 v (lt-of-lt-of-le (pow-pos 1074) h)) ∙ p)
+outside false x a v h p q =
+    T-not (le one x) (no q) (le-of-values one x 1 1 a (2 ^ 1074) (lit< tt) (pow-pos 1074) (refl, refl) v (le-trans (le-of-eq (one-mul (2 ^ 1074))) (le-trans h (le-of-eq (sym (mul-one a))))))
+
+small-field : (s : Bool) (x t : ℕ) → le (whole 0) (ofFields binary64 s x t) ≡ true → le one (ofFields binary64 s x t) ≡ false → x ≤ 1022
+unfolding ofFields le round
+small-field s zero t p q = zero-le
+small-field s (suc j) t p q = go (eqb (suc j) 2047) (eqb t 0) s p q
   where
-    go : {x : Float} → Upward x → T (not (lt x (two-to 64))) → 18446744073709551615 ≡ wholePart x
-    go infinite h = refl
-    go (plain m e) h =
-        capped (m * up e / down e) (le-div-iff-mul-le (down-pos e) .1 (tidy (m * up e) (down e) (nltb→le (m * up e * 1) (1 * 2 ^ 64 * down e) h)))
-    go (minus-zero m e z) h = absurd (no-limit (m * up e) (down e) (down-pos e) (nltb→le 0 (m * up e * 1 + 1 * 2 ^ 64 * down e) h))
+    value : Bool → Bool → Bool → Float
+    value a b s = cond a (cond b (inf s) nan) (odd 53 s (2 ^ 52 + t) j 1074)
 
--- ---- between them: the fields of the pattern
+    go : (a b s : Bool) → le (whole 0) (value a b s) ≡ true → le one (value a b s) ≡ false → suc j ≤ 1022
+    go true true true p q = absurd (yes p)
+    go true true false p q = absurd (no q)
+    go true false s p q = absurd (yes p)
+    go false b s p q = lt-of-not-le (λ (h : 1022 ≤ j). outside s (odd 53 s (2 ^ 52 + t) j 1074) ((2 ^ 52 + t) * 2 ^ j) (odd-sign 53 s (2 ^ 52 + t) j 1074) (units j t h) p q)
 
--- the value has size 1 at least: an exponent's field from 1023 on
-from-one : (j t : ℕ) → 1022 ≤ j → 2 ^ 1074 ≤ (2 ^ 52 + t) * 2 ^ j
-from-one j t h = le-trans (le-of-eq (pow-add 2 52 1022)) (mul-le-mul (le-add-right (2 ^ 52) t) (pow-mono h))
-
-size-from-one : (m : ℕ) (e : ℤ) (a : ℕ) → m * up e * 2 ^ 1074 ≡ a * down e → 2 ^ 1074 ≤ a → down e ≤ m * up e
-size-from-one m e a v h = le-of-mul-le-mul-right (le-trans (le-of-eq (mul-comm (down e) (2 ^ 1074))) (le-trans (mul-le-mul-right (down e) h) (le-of-eq (sym v)))) (pow-pos 1074)
-
--- a whole part of 0 is that of a size below 1
-no-whole : (n d : ℕ) → 0 < d → d ≤ n → 0 ≡ min (n / d) 18446744073709551615 → ⊥
-no-whole n d D h e = go (n / d) (le-div-iff-mul-le D .1 (le-trans (le-of-eq (one-mul d)) h)) e
-  where
-    go : (q : ℕ) → 1 ≤ q → 0 ≡ min q 18446744073709551615 → ⊥
-    go q k e = omega arith
-
-not-from-one : {x : Float} → Upward x → 0 ≡ wholePart x → (s : Bool) (a : ℕ) → HasValue x s a (2 ^ 1074) → 2 ^ 1074 ≤ a → ⊥
-unfolding toUnsigned
-not-from-one infinite w s a v h = v
-not-from-one (plain m e) w s a v h = no-whole (m * up e) (down e) (down-pos e) (size-from-one m e a (v .1) h) w
-not-from-one (minus-zero m e z) w s a v h = no-size (m * up e) (down e) z (down-pos e) (size-from-one m e a (v .1) h)
-  where
-    no-size : (n d : ℕ) → n ≡ 0 → 0 < d → d ≤ n → ⊥
-    no-size n d e D h = omega arith
-
-unbounded : {x : Float} → Upward x → finite x ≡ false → 0 ≡ wholePart x → ⊥
-unfolding toUnsigned
-unbounded infinite f w = omega arith
-unbounded (plain m e) f w = true≢false f
-unbounded (minus-zero m e z) f w = true≢false f
-
--- the exponent's field of a value whose whole part is 0
-small-field : (s : Bool) (x t : ℕ) → Upward (ofFields binary64 s x t) → 0 ≡ wholePart (ofFields binary64 s x t) → x ≤ 1022
-unfolding ofFields
-small-field s zero t u w = zero-le
-small-field s (suc j) t u w = go (eqb (suc j) 2047) (eqb t 0) u w
-  where
-    value : Bool → Bool → Float
-    value a b = cond a (cond b (inf s) nan) (odd 53 s (2 ^ 52 + t) j 1074)
-
-    go : (a b : Bool) → Upward (value a b) → 0 ≡ wholePart (value a b) → suc j ≤ 1022
-    go true true u w = absurd (unbounded u refl w)
-    go true false u w = absurd (unbounded u refl w)
-    go false b u w = lt-of-not-le (λ (h : 1022 ≤ j). not-from-one u w s ((2 ^ 52 + t) * 2 ^ j) (odd-sign 53 s (2 ^ 52 + t) j 1074) (from-one j t h))
+number : (x : Float) → lt x limit ≡ true → T (not (isNan x))
+unfolding lt isNan
+number nan h = absurd (yes h)
+number (inf s) h = tt
+number (fin s m e) h = tt
 
 -- what the proof of `whole_part` cites: of an x that the format holds and that is from 0 to below 2 ^ 64, the exponent's field and the digits with their leading one
 module _ (x : Float) (F : T (fits binary64 x)) (a : le nought x ≡ true) (c : lt x limit ≡ true) where
@@ -156,32 +111,30 @@ module _ (x : Float) (F : T (fits binary64 x)) (a : le nought x ≡ true) (c : l
   under = subst (λ (k : Float). T (lt x k)) limit-is (yes c)
 
   pub is-number : T (not (isNan x))
-  unfolding isNan
-  is-number = go (upward x a)
-    where
-      go : {x : Float} → Upward x → T (not (isNan x))
-      go infinite = tt
-      go (plain m e) = tt
-      go (minus-zero m e z) = tt
+  is-number = number x c
 
-  below-field : le one x ≡ false → exponent ≤ 1022
+  -- from 1 on, the field is what stands above the digits; below 1 it is small
+  sides : (T (le one x) × (exponent ≡ b / 2 ^ 52)) ⊎ (T (not (le one x)) × (exponent ≤ 1022))
   unfolding ofBits
-  below-field h =
-      let same = sym (ofBits-toBits binary64 x F) in
-      subst (λ (k : ℕ). k ≤ 1022) (field b 11 52)
-      (small-field (leb (2 ^ 63) b) (b % 2 ^ 63 / 2 ^ 52) (b % 2 ^ 52) (subst Upward same (upward x a)) (subst (λ (k : Float). 0 ≡ wholePart k) same (below-one 64 x (no h))))
-
-  from-field : le one x ≡ true → exponent ≡ b / 2 ^ 52
-  from-field h = mod-eq-of-lt (go (b / 2 ^ 52) (up-by x F (yes h) under))
+  sides = go (le one x) refl
     where
-      go : (e : ℕ) → e - 1075 < 64 → e < 2048
-      go e k = omega arith
+      same : ofBits binary64 b ≡ x
+      same = ofBits-toBits binary64 x F
+
+      less : (e : ℕ) → e - 1075 < 64 → e < 2048
+      less e k = omega arith
+
+      go : (t : Bool) → le one x ≡ t → (T (le one x) × (exponent ≡ b / 2 ^ 52)) ⊎ (T (not (le one x)) × (exponent ≤ 1022))
+      go true h = inl (yes h, mod-eq-of-lt (less (b / 2 ^ 52) (up-by x F (yes h) under)))
+      go false h =
+          inr (
+            no h,
+            subst (λ (k : ℕ). k ≤ 1022) (field b 11 52)
+                (small-field (leb (2 ^ 63) b) (b % 2 ^ 63 / 2 ^ 52) (b % 2 ^ 52) (ap (le (whole 0)) same ∙ ap (λ (k : Float). le k x) (sym nought-is) ∙ a) (ap (le one) same ∙ h)),
+          )
 
   digits-lt : digits < 2 ^ 53
-  digits-lt = rw (and-mask b 52, or-shifted-r 1 52 (b % 2 ^ 52) (mod-lt b (pow-pos 52))) (go (b % 2 ^ 52) (mod-lt b (pow-pos 52)))
-    where
-      go : (t : ℕ) → t < 2 ^ 52 → 2 ^ 52 + t < 2 ^ 53
-      go t h = omega arith
+  digits-lt = rw (and-mask b 52, or-shifted-r 1 52 (b % 2 ^ 52) (mod-lt b (pow-pos 52))) (omega (arith, mod-lt b (pow-pos 52)))
 
   shifted-out : exponent ≤ 1022 → digits / 2 ^ (1075 - exponent) ≡ 0
   shifted-out h = div-eq-of-lt (lt-of-lt-of-le digits-lt (pow-mono (go exponent h)))
@@ -189,24 +142,17 @@ module _ (x : Float) (F : T (fits binary64 x)) (a : le nought x ≡ true) (c : l
       go : (e : ℕ) → e ≤ 1022 → 53 ≤ 1075 - e
       go e h = omega arith
 
-  by-one : {A : Type 0} → (le one x ≡ true → A) → (le one x ≡ false → A) → A
-  by-one {A} f g = go (le one x) refl
-    where
-      go : (t : Bool) → le one x ≡ t → A
-      go true e = f e
-      go false e = g e
-
   pub up-fits : exponent - 1075 < 64
-  up-fits = by-one (λ h. rw (from-field h) (up-by x F (yes h) under)) (λ h. go exponent (below-field h))
+  up-fits = elim sides [ inl z ↦ rw (z .1) (up-by x F (z .0) under) | inr z ↦ go exponent (z .1) ]
     where
       go : (e : ℕ) → e ≤ 1022 → e - 1075 < 64
       go e h = omega arith
 
   pub cut : exponent ≤ 1075 → digits / 2 ^ (1075 - exponent) ≡ wholePart x
-  cut k = by-one (λ h. rw (from-field h) (cut-down x F (yes h) under (rw (from-field h) at k))) (λ h. shifted-out (below-field h) ∙ below-one 64 x (no h))
+  cut k = elim sides [ inl z ↦ rw (z .1) (cut-down x F (z .0) under (rw (z .1) at k)) | inr z ↦ shifted-out (z .1) ∙ below-one 64 x (z .0) ]
 
   pub raised : 1075 < exponent → digits * 2 ^ (exponent - 1075) % 2 ^ 64 ≡ wholePart x
-  raised k = by-one (λ h. rw (from-field h) (cut-up x F (yes h) under (rw (from-field h) at k))) (λ h. absurd (go exponent (below-field h) k))
+  raised k = elim sides [ inl z ↦ rw (z .1) (cut-up x F (z .0) under (rw (z .1) at k)) | inr z ↦ absurd (go exponent (z .1) k) ]
     where
       go : (e : ℕ) → e ≤ 1022 → 1075 < e → ⊥
       go e h k = omega arith

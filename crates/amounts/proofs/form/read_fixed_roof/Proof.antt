@@ -22,11 +22,11 @@ enum-known-d c = search needs
 
 returns : tie.Need-returns
 unfolding formOf ofBits round
-returns c = filled fixedRanges _ _ _ _ of-inputs _ _ (c .before .before .before .read-inputs .ensures) (c .before .x .given .1)
+returns c = filled _ _ _ _ of-inputs fixedRanges _ _ (c .before .before .before .read-inputs .ensures) (c .before .x .given .1)
 
 returns-2 : tie.Need-returns-2
 unfolding formOf ofBits round
-returns-2 c = filled fixedRanges _ _ _ _ of-inputs _ _ (c .before .before .before .read-inputs .ensures) (c .before .d .given .1)
+returns-2 c = filled _ _ _ _ of-inputs fixedRanges _ _ (c .before .before .before .read-inputs .ensures) (c .before .d .given .1)
 
 pub read-fixed-roof-spec : {M : Type 1} → statement M
 read-fixed-roof-spec =

@@ -1,4 +1,4 @@
-use mathlib.Core.Path.{sym, _∙_}
+use mathlib.Core.Path.{_∙_}
 use borrow.Author.Tests.{lt-leb}
 use borrow.Author.Needs.{needs}
 use Rattle.amounts.specs.Loss.{vapourOf}
@@ -17,7 +17,7 @@ loss-over-requires : tie.Need-loss-over-requires
 loss-over-requires c κs = search needs
 
 returns-2 : tie.Need-returns-2
-returns-2 c = let k = c .before .before in c .loss-over .ensures ∙ c .before .row-for .ensures _ _ _ _ ∙ sym (vapour-over _ _ _ _ _ _ (k .if1 .left))
+returns-2 c = rw (vapour-over _ _ _ _ _ _ (c .before .before .if1 .left)) (c .loss-over .ensures ∙ c .before .row-for .ensures _ _ _ _)
 
 pub vapour-loss-spec : {M : Type 1} → statement M
 vapour-loss-spec =
