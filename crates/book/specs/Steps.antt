@@ -1,14 +1,21 @@
 -- What only follows the code's steps. No promise rests on these definitions.
 use Prim.Native.Nat.{ℕ, _*_, _^_, _≤_, _<_}
 use mathlib.Core.Path.{_≡_}
-use mathlib.Core.Bool.{Bool, true}
-use mathlib.Core.List.{List}
+use mathlib.Core.Bool.{Bool, true, not}
+use mathlib.Core.List.{List, [], _∷_}
 use lib.ListN.{length, getD}
+use Rattle.amounts.specs.Decline as number
+use Rattle.amounts.specs.Decline.{Answer, taken, check, checked, onTaken, turn, full}
+use Rattle.layout.specs.Outline.{mayPost}
+use Rattle.layout.specs.Verdict.{verdictOf}
+use Rattle.layout.specs.declared.verdict.Verdict.{Verdict}
 use Rattle.layout.specs.declared.outline.Outline.{Outline}
-use Rattle.post.specs.Moves.{Fits}
+use Rattle.post.specs.Moves.{moveAt, Fits}
 use Rattle.post.specs.declared.moves.Move.{Move}
 use Rattle.book.specs.Entry.{isThere, storeAfter, sumsAfter, handledAfter}
 use Rattle.book.specs.Ledger.{total}
+use Rattle.book.specs.Posts.{hasRoom}
+use Rattle.book.specs.declared.site.Year.{Year}
 
 -- ---- a move entered in the lists of a year
 
@@ -31,3 +38,21 @@ pub record Entered (counted sides store sums handled : List ℕ) (m : Move) (sto
   pub store-is : r ≡ true → store' ≡ storeAfter store m
   pub sums-is : r ≡ true → sums' ≡ sumsAfter counted sides sums m
   pub handled-is : r ≡ true → handled' ≡ handledAfter counted handled m
+
+-- ---- a run of posts
+
+-- 4 to 10: the move of a post that only 11 can still decline
+unfoldable pub admitted : Outline → List ℕ → Bool → ℕ → List ℕ → Answer Move
+unfolding checked moveAt
+admitted o numbers closed posts s =
+    onTaken (checked (check (mayPost o) turn ∷ check (not closed) number.closed ∷ []) s) (λ s.
+    onTaken (moveAt o numbers s) (λ m. checked (check (hasRoom posts m) full ∷ []) m))
+
+-- a year by its parts
+abbrev pub yearWith : List ℕ → List ℕ → List ℕ → ℕ → Bool → Year
+yearWith store sums handled posts closed = record { store = store; sums = sums; handled = handled; posts = posts; closed = closed }
+
+-- what a run leaves: its verdict, and where it is taken the year that its parts then are
+pub record Ran (a : Answer Year) (verdict : Verdict) (y : Year) : Type 0 where
+  pub told : verdict ≡ verdictOf a
+  pub left : (z : Year) → a ≡ taken z → y ≡ z

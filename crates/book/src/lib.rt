@@ -2,4 +2,5 @@
 pub mod answer;
 pub mod entry;
 pub mod ledger;
+pub mod posts;
 pub mod site;

@@ -1,0 +1,116 @@
+// Posts on a book, one by one and in a run, and the posts of a block, taken whole or not at all.
+ghost use mathlib.Core.Path.{_≡_};
+ghost use Prim.Native.Nat.{_*_, _≤_};
+ghost use lib.ListN.{length};
+ghost use Rattle.post.specs.Moves as moves;
+ghost use Rattle.layout.specs.Posts.{partOf};
+ghost use Rattle.book.specs.Answer.{outcome};
+ghost use Rattle.book.specs.Posts.{hasRoom, takenTo, postsOn, singleOn};
+ghost use Rattle.book.specs.Site.{Sound, SoundSetup, SoundYear};
+ghost use Rattle.book.specs.Steps.{admitted, yearWith, Ran};
+use crate::answer;
+use crate::answer::Answered;
+use crate::entry;
+use crate::site::Book;
+use crate::site::Year;
+use amounts::decline;
+use layout::outline;
+use layout::outline::Outline;
+use layout::posts::POST_SIZE;
+use layout::setup::Setup;
+use layout::verdict::Verdict;
+use post::moves;
+use post::moves::Move;
+use post::moves::MoveRead;
+
+// What a run answers, with the posts then counted and whether the close is among them.
+pub struct RunEnd {
+    pub verdict: Verdict,
+    pub posts: u32,
+    pub closed: bool,
+}
+
+fn has_room(posts: u32, m: Move) -> bool
+    ensures { λ r. ⌜ r ≡ hasRoom posts m ⌝ }
+{
+    if entry::closes(m) {
+        return true;
+    }
+    posts < 4000
+}
+
+// The move of a post of any bytes that passes 4 to 10.
+fn admit(o: Outline, numbers: &[u16], closed: bool, posts: u32, s: &[u8]) -> MoveRead
+    ensures { λ r. ⌜ moves.answer r ≡ admitted o (now (numbers .entry)) closed posts (now (s .entry)) ⌝ }
+{
+    if !outline::may_post(o) {
+        return MoveRead::Declined(decline::TURN);
+    }
+    if closed {
+        return MoveRead::Declined(decline::CLOSED);
+    }
+    match moves::read_move(o, numbers, s) {
+        MoveRead::Declined(d) => MoveRead::Declined(d),
+        MoveRead::Known(m) => {
+            if has_room(posts, m) {
+                return MoveRead::Known(m);
+            }
+            MoveRead::Declined(decline::FULL)
+        }
+    }
+}
+
+// The first n posts of the bytes, each of the given size and tried on the year that the earlier ones left, up to the first that is declined.
+pub(crate) fn run(
+    setup: Setup,
+    store: &mut [u64; 12],
+    sums: &mut [u64; 576],
+    handled: &mut [u64; 8],
+    posts: u32,
+    closed: bool,
+    s: &[u8],
+    size: usize,
+    n: usize,
+) -> RunEnd
+    requires { ⌜ SoundSetup setup ⌝ }
+    requires { ⌜ SoundYear setup (yearWith (now store) (now sums) (now handled) posts closed) ⌝ }
+    requires { ⌜ n * size ≤ length (now s) ⌝ }
+    ensures { λ r. ⌜ Ran (takenTo setup (yearWith (now (store .entry)) (now (sums .entry)) (now (handled .entry)) posts closed) (partOf size (now (s .entry))) n) (r .verdict) (yearWith (now (store .exit)) (now (sums .exit)) (now (handled .exit)) (r .posts) (r .closed)) ⌝ }
+{
+    let numbers = setup.numbers;
+    let counted = setup.counted;
+    let sides = setup.sides;
+    let mut count = posts;
+    let mut ended = closed;
+    let mut i: usize = 0;
+    while i < n {
+        let o = setup.outline;
+        let at = i * size;
+        match admit(o, &numbers, ended, count, &s[at..at + size]) {
+            MoveRead::Declined(d) => {
+                return RunEnd {
+                    verdict: Verdict::Declined(d),
+                    posts: count,
+                    closed: ended,
+                };
+            }
+            MoveRead::Known(m) => {
+                if !entry::enter(store, sums, handled, &counted, &sides, m) {
+                    return RunEnd {
+                        verdict: Verdict::Declined(decline::SHORT),
+                        posts: count,
+                        closed: ended,
+                    };
+                }
+                count = count + 1;
+                ended = entry::closes(m);
+                i += 1;
+            }
+        }
+    }
+    RunEnd {
+        verdict: Verdict::Accepted,
+        posts: count,
+        closed: ended,
+    }
+}
