@@ -5,4 +5,5 @@ pub mod Entry
 pub mod Setup
 pub mod Stage
 pub mod Posts
+pub mod Block
 pub mod Steps

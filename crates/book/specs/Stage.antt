@@ -7,9 +7,24 @@ use Rattle.layout.specs.Each.{putTo}
 use Rattle.layout.specs.Stage.{sideRow, rateRow, stageChecks}
 use Rattle.layout.specs.declared.setup.Setup.{Setup}
 
--- the set-up with its next stage described
+-- "17 bytes per substance": the sides and rates of n substances in the pairs from base on
+abbrev pub withPairs : Setup → ℕ → List ℕ → ℕ → Setup
+withPairs u base s n =
+    record {
+      outline = u .outline;
+      numbers = u .numbers;
+      classes = u .classes;
+      counted = u .counted;
+      «water_to» = u .«water_to»;
+      «residue_to» = u .«residue_to»;
+      sides = putTo (λ i. base + i) (sideRow s) (u .sides) n;
+      rates = putTo (λ i. base + i) (rateRow s) (u .rates) n;
+    }
+
+-- the set-up with its next stage described: "8: 1 public water, 2 sewer. 9: residues 1 off site, 2 landfill. From 10, 17 bytes per substance"
 abbrev pub withStage : Setup → ℕ → List ℕ → Setup
 withStage u stage body =
+    let v = withPairs u (stage * 8) (drop 2 body) (u .outline .substances) in
     record {
       outline =
           record {
@@ -18,13 +33,13 @@ withStage u stage body =
             stages = u .outline .stages;
             described = stage + 1;
           };
-      numbers = u .numbers;
-      classes = u .classes;
-      counted = u .counted;
-      «water_to» = set (u .«water_to») stage (getD body 0 0);
-      «residue_to» = set (u .«residue_to») stage (getD body 1 0);
-      sides = putTo (λ i. stage * 8 + i) (sideRow (drop 2 body)) (u .sides) (u .outline .substances);
-      rates = putTo (λ i. stage * 8 + i) (rateRow (drop 2 body)) (u .rates) (u .outline .substances);
+      numbers = v .numbers;
+      classes = v .classes;
+      counted = v .counted;
+      «water_to» = set (v .«water_to») stage (getD body 0 0);
+      «residue_to» = set (v .«residue_to») stage (getD body 1 0);
+      sides = v .sides;
+      rates = v .rates;
     }
 
 unfoldable pub describedOn : Setup → ℕ → List ℕ → Answer Setup

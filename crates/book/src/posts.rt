@@ -1,13 +1,14 @@
 // Posts on a book, one by one and in a run, and the posts of a block, taken whole or not at all.
 ghost use mathlib.Core.Path.{_≡_};
-ghost use Prim.Native.Nat.{_*_, _≤_};
+ghost use Prim.Native.Nat.{_*_, _≤_, _<_};
 ghost use lib.ListN.{length};
 ghost use Rattle.post.specs.Moves as moves;
 ghost use Rattle.layout.specs.Posts.{partOf};
 ghost use Rattle.book.specs.Answer.{outcome};
+ghost use Rattle.book.specs.Block.{onYear};
 ghost use Rattle.book.specs.Posts.{hasRoom, takenTo, postsOn, singleOn};
-ghost use Rattle.book.specs.Site.{Sound, SoundSetup, SoundYear};
-ghost use Rattle.book.specs.Steps.{admitted, yearWith, Ran};
+ghost use Rattle.book.specs.Site.{Sound, SoundSetup, SoundYear, bookWith};
+ghost use Rattle.book.specs.Steps.{admitted, guarded, yearWith, Ran};
 use crate::answer;
 use crate::answer::Answered;
 use crate::entry;
@@ -113,4 +114,72 @@ pub(crate) fn run(
         posts: count,
         closed: ended,
     }
+}
+
+// The book with the year that a run left, or the book given in.
+fn after(
+    b: Book,
+    store: [u64; 12],
+    sums: [u64; 576],
+    handled: [u64; 8],
+    end: RunEnd,
+    blocks: u32,
+) -> Answered
+    ensures { λ r. ⌜ r ≡ outcome b (guarded (end .verdict) (bookWith (b .setup) (yearWith store sums handled (end .posts) (end .closed)) blocks)) ⌝ }
+{
+    let v = end.verdict;
+    match v {
+        Verdict::Declined(d) => answer::declined(b, d),
+        Verdict::Accepted => {
+            let setup = b.setup;
+            Answered {
+                verdict: Verdict::Accepted,
+                book: Book {
+                    setup,
+                    year: Year {
+                        store,
+                        sums,
+                        handled,
+                        posts: end.posts,
+                        closed: end.closed,
+                    },
+                    blocks,
+                },
+            }
+        }
+    }
+}
+
+// One post of any bytes.
+pub fn take_post(b: Book, s: &[u8]) -> Answered
+    requires { ⌜ Sound b ⌝ }
+    ensures { λ r. ⌜ r ≡ outcome b (singleOn b (now (s .entry))) ⌝ }
+    ensures { λ r. ⌜ Sound (r .book) ⌝ }
+{
+    let setup = b.setup;
+    let y = b.year;
+    let mut store = y.store;
+    let mut sums = y.sums;
+    let mut handled = y.handled;
+    let end = run(setup, &mut store, &mut sums, &mut handled, y.posts, y.closed, s, s.len(), 1);
+    after(b, store, sums, handled, end, b.blocks)
+}
+
+// The posts of a kind 3 block, and one block more.
+pub(crate) fn take_posts(b: Book, count: u8, body: &[u8]) -> Answered
+    requires { ⌜ Sound b ⌝ }
+    requires { ⌜ b .blocks < 65536 ⌝ }
+    ensures { λ r. ⌜ r ≡ outcome b (onYear b (postsOn (b .setup) (b .year) count (now (body .entry)))) ⌝ }
+{
+    let setup = b.setup;
+    let y = b.year;
+    if let Verdict::Declined(d) = layout::posts::check_posts(setup.outline, y.closed, count, body) {
+        return answer::declined(b, d);
+    }
+    let mut store = y.store;
+    let mut sums = y.sums;
+    let mut handled = y.handled;
+    let n = count as usize;
+    let end = run(setup, &mut store, &mut sums, &mut handled, y.posts, y.closed, body, POST_SIZE, n);
+    after(b, store, sums, handled, end, b.blocks + 1)
 }

@@ -1,5 +1,5 @@
 -- What a call on a book returns, and what its verdict tells of its answer. Assumes nothing.
-use mathlib.Core.Path.{_≡_, sym, ap, subst, _∙_}
+use mathlib.Core.Path.{_≡_, refl, sym, ap, subst, _∙_}
 use mathlib.Core.List.{List}
 use Prim.Native.Nat.{ℕ}
 use native.Mathlib.Omega.{arith}
@@ -10,25 +10,29 @@ use Rattle.layout.specs.declared.verdict.Verdict.{Verdict}
 use Rattle.layout.specs.declared.verdict.Verdict.the-variants.{Accepted, Declined}
 use Rattle.layout.proofs.verdict.Laws.{accepts, declines}
 use Rattle.book.specs.Answer.{outcome}
+use Rattle.book.specs.Site.{Sound}
+use Rattle.book.specs.Steps.{guarded}
 use Rattle.book.specs.declared.answer.Answered.{Answered}
 use Rattle.book.specs.declared.site.Book.{Book}
 
--- ---- what a call returns
+-- ---- a value by its verdict
 
--- a decline is the answer, and its book is the one given in
-pub stays : (P : Book → Type 0) (given : Book) (x : Answer Book) (n : ℕ) (r : Answered) → x ≡ declined n → r ≡ outcome given (declined n) → P given
-    → (r ≡ outcome given x) × P (r .book)
-stays P given x n r is e p = (e ∙ ap (outcome given) (sym is), subst (λ (y : Answered). P (y .book)) (sym e) p)
+module _ {A : Type 0} (rows : List Check) (v : Verdict) (a : A) (told : v ≡ verdictOf (checked rows (tt {0}))) where
+  pub guard-declined : (d : Decline) (b : A) → v ≡ Declined d → guarded v b ≡ checked rows a
+  guard-declined d b e = ap (λ (x : Verdict). guarded x b) e ∙ sym (declines (tt {0}) a rows d (sym e ∙ told))
 
-pub refuses : (P : Book → Type 0) (given b : Book) (rows : List Check) (v : Verdict) (d : Decline) (r : Answered) → v ≡ verdictOf (checked rows (tt {0})) → v ≡ Declined d
-    → r ≡ outcome given (declined (d .number)) → P given → (r ≡ outcome given (checked rows b)) × P (r .book)
-refuses P given b rows v d r told is e p = stays P given (checked rows b) (d .number) r (declines (tt {0}) b rows d (sym is ∙ told)) e p
+  pub table-declined : (d : Decline) → v ≡ Declined d → checked rows a ≡ declined (d .number)
+  table-declined d e = declines (tt {0}) a rows d (sym e ∙ told)
 
--- a book that is taken is the table's answer
-pub grants : (P : Book → Type 0) (given b c : Book) (rows : List Check) → Accepted ≡ verdictOf (checked rows (tt {0})) → c ≡ b → P b
-    → (record { verdict = Accepted; book = c } ≡ outcome given (checked rows b)) × P c
-grants P given b c rows told e p =
-    (ap (λ (x : Book). record { verdict = Accepted; book = x }) e ∙ ap (outcome given) (sym (accepts (tt {0}) b rows told)), subst P (sym e) p)
+  pub table-accepted : v ≡ Accepted → checked rows a ≡ taken a
+  table-accepted e = accepts (tt {0}) a rows (sym e ∙ told)
+
+-- ---- a call
+
+-- a call that keeps the book sound where it is taken keeps it sound
+pub sound-after : (b : Book) (a : Answer Book) (r : Answered) → Sound b → ((c : Book) → a ≡ taken c → Sound c) → r ≡ outcome b a → Sound (r .book)
+sound-after b (taken c) r h kept e = rw e (kept c refl)
+sound-after b (declined n) r h kept e = rw e h
 
 -- ---- what a call's verdict tells of its answer
 

@@ -13,18 +13,21 @@ use lib.Seq.{take-length}
 use Rattle.amounts.specs.Decline.{Answer, taken, declined, check, checked, onTaken, short, full}
 use Rattle.amounts.proofs.decline.Laws.{was-taken}
 use Rattle.layout.specs.Outline.{mayPost}
-use Rattle.layout.specs.Posts.{partOf}
+use Rattle.layout.specs.Posts.{partOf, postIn, ownChecks}
 use Rattle.layout.specs.Verdict.{verdictOf}
 use Rattle.layout.specs.declared.setup.Setup.{Setup}
+use Rattle.layout.specs.declared.verdict.Verdict.{Verdict}
 use Rattle.layout.specs.declared.verdict.Verdict.the-variants.{Accepted, Declined}
 use Rattle.layout.proofs.Checked.{passed}
+use Rattle.layout.proofs.posts.Laws.{Owned, owned}
 use Rattle.post.specs.Moves.{moveAt, Fits}
 use Rattle.post.specs.declared.moves.Move.{Move}
 use Rattle.post.proofs.moves.Laws.{move-fits}
 use Rattle.book.specs.Entry.{isThere, storeAfter, sumsAfter, handledAfter, closes, yearAfter}
-use Rattle.book.specs.Posts.{turnChecks, hasRoom, roomChecks, entered, postOn, takenTo}
-use Rattle.book.specs.Site.{SoundSetup, SoundYear}
-use Rattle.book.specs.Steps.{Room, Entered, admitted, yearWith, Ran}
+use Rattle.book.specs.Posts.{turnChecks, hasRoom, roomChecks, entered, postOn, takenTo, postsOn, singleOn}
+use Rattle.book.specs.Site.{Sound, SoundSetup, SoundYear, bookWith}
+use Rattle.book.specs.Steps.{Room, Entered, admitted, guarded, yearWith, Ran}
+use Rattle.book.specs.declared.site.Book.{Book}
 use Rattle.book.specs.declared.site.Year.{Year}
 use Rattle.book.proofs.entry.Laws.{Step, stepped, room-of}
 
@@ -241,3 +244,44 @@ ran-declined a n y e = record { told = sym (ap verdictOf e); left = λ z f. let 
 
 pub ran-taken : (a : Answer Year) (y : Year) → a ≡ taken y → Ran a Accepted y
 ran-taken a y e = record { told = sym (ap verdictOf e); left = λ z f. cc }
+
+-- the book with what a run left
+pub ran-book : (a : Answer Year) (v : Verdict) (y : Year) (u : Setup) (n : ℕ) → Ran a v y → guarded v (bookWith u y n) ≡ onTaken a (λ z. taken (bookWith u z n))
+ran-book (taken z) v y u n r = rw (r .told, r .left z refl)
+ran-book (declined d) v y u n r = rw (r .told)
+
+-- ---- single posts and blocks of them
+
+-- a single post is a run of one
+pub single-is : (b : Book) (s : List ℕ)
+    → onTaken (takenTo (b .setup) (b .year) (partOf (length s) s) 1) (λ z. taken (bookWith (b .setup) z (b .blocks))) ≡ singleOn b s
+unfolding singleOn
+single-is b s = ap (λ (x : Answer Year). onTaken x (λ z. taken (bookWith (b .setup) z (b .blocks)))) (run-of-one (b .setup) (b .year) s)
+
+pub single-sound : (b c : Book) (s : List ℕ) → Sound b → singleOn b s ≡ taken c → Sound c
+unfolding singleOn
+single-sound b c s h e =
+    let a = was-taken (postOn (b .setup) (b .year) s) _ c e in
+    let p = posted (b .setup) (b .year) (a .0) s (a .1) in
+    let is : c ≡ bookWith (b .setup) (a .0) (b .blocks) = cc in
+    subst Sound (sym is) (record { setup = h .setup; year = post-step (b .setup) (b .year) (a .0) s (h .setup) (h .year) p .sound; blocks-few = h .blocks-few })
+
+module _ (u : Setup) (y : Year) (count : ℕ) (body : List ℕ) where
+  abbrev pub own : Answer ℕ
+  own = checked (ownChecks (u .outline) (y .closed) count body) count
+
+  pub own-declined : (n : ℕ) → own ≡ declined n → postsOn u y count body ≡ declined n
+  unfolding postsOn
+  own-declined n e = rw e
+
+  pub own-taken : own ≡ taken count → postsOn u y count body ≡ takenTo u y (postIn body) count
+  unfolding postsOn
+  own-taken e = rw e
+
+  -- what a block of posts that is taken tells
+  pub posts-taken : (z : Year) → postsOn u y count body ≡ taken z → Owned (u .outline) (y .closed) count body × (takenTo u y (postIn body) count ≡ taken z)
+  unfolding postsOn
+  posts-taken z e =
+      let a = was-taken own (takenTo u y (postIn body)) z e in
+      let o = owned (u .outline) (y .closed) count body count (a .0) (a .1) in
+      (o .0, ap (takenTo u y (postIn body)) (sym (o .1)) ∙ a .2)

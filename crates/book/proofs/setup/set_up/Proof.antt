@@ -1,0 +1,39 @@
+use mathlib.Core.Path.{sym, ap, _∙_}
+use denote.Ref.{now}
+use Rattle.amounts.specs.Decline.{taken}
+use Rattle.layout.specs.Setup.{setupChecks, setupOf}
+use Rattle.book.specs.Setup.{setUpOn}
+use Rattle.book.proofs.answer.Laws.{guard-declined, table-accepted}
+use borrow.Author.Needs.{needs}
+use Rattle.book.proofs.setup.set_up.Statement.{statement}
+use Rattle.book.proofs.setup.set_up.Tie as tie
+
+check-setup-requires : tie.Need-check-setup-requires
+check-setup-requires c κs = search needs
+
+enum-told : tie.Need-enum-told
+enum-told c = search needs
+
+returns : tie.Need-returns
+unfolding setUpOn
+returns c =
+    let a = c .before .before .before .before .before .args in
+    guard-declined (setupChecks (a .u .outline) (a .count) (now (a .body))) _ (setupOf (a .count) (now (a .body))) (c .before .before .check-setup .ensures) _ _ (c .enum-told .given .1)
+
+enum-told-2 : tie.Need-enum-told-2
+enum-told-2 c = search needs
+
+parse-requires : tie.Need-parse-requires
+parse-requires c κs = search needs
+
+returns-2 : tie.Need-returns-2
+unfolding setUpOn
+returns-2 c =
+    let k = c .before .before .before in
+    let a = k .before .before .before .args in
+    ap taken (c .parse .ensures) ∙ sym (table-accepted (setupChecks (a .u .outline) (a .count) (now (a .body))) _ (setupOf (a .count) (now (a .body))) (k .check-setup .ensures) (c .before .enum-told2 .given .1))
+
+pub set-up-spec : {M : Type 1} → statement M
+set-up-spec =
+    tie.close
+    (tie.spec check-setup-requires enum-told returns enum-told-2 parse-requires returns-2)
