@@ -21,10 +21,9 @@ withPairs u base s n =
       rates = putTo (λ i. base + i) (rateRow s) (u .rates) n;
     }
 
--- the set-up with its next stage described: "8: 1 public water, 2 sewer. 9: residues 1 off site, 2 landfill. From 10, 17 bytes per substance"
-abbrev pub withStage : Setup → ℕ → List ℕ → Setup
-withStage u stage body =
-    let v = withPairs u (stage * 8) (drop 2 body) (u .outline .substances) in
+-- "8: 1 public water, 2 sewer. 9: residues 1 off site, 2 landfill": one stage more is described
+abbrev pub staged : Setup → ℕ → List ℕ → Setup
+staged u stage body =
     record {
       outline =
           record {
@@ -33,14 +32,18 @@ withStage u stage body =
             stages = u .outline .stages;
             described = stage + 1;
           };
-      numbers = v .numbers;
-      classes = v .classes;
-      counted = v .counted;
-      «water_to» = set (v .«water_to») stage (getD body 0 0);
-      «residue_to» = set (v .«residue_to») stage (getD body 1 0);
-      sides = v .sides;
-      rates = v .rates;
+      numbers = u .numbers;
+      classes = u .classes;
+      counted = u .counted;
+      «water_to» = set (u .«water_to») stage (getD body 0 0);
+      «residue_to» = set (u .«residue_to») stage (getD body 1 0);
+      sides = u .sides;
+      rates = u .rates;
     }
+
+-- the set-up with its next stage described
+abbrev pub withStage : Setup → ℕ → List ℕ → Setup
+withStage u stage body = staged (withPairs u (stage * 8) (drop 2 body) (u .outline .substances)) stage body
 
 unfoldable pub describedOn : Setup → ℕ → List ℕ → Answer Setup
 unfolding checked
