@@ -60,7 +60,7 @@ pub fn all_zero(s: &[u8]) -> bool
     true
 }
 
-fn lower(a: usize, b: usize) -> usize
+pub(crate) fn lower(a: usize, b: usize) -> usize
     ensures { λ r. ⌜ r ≡ min a b ⌝ }
 {
     if a < b { a } else { b }

@@ -1,10 +1,8 @@
 // A block's frame: its tag, its check sums, its kind and its number.
 ghost use mathlib.Core.Path.{_≡_};
-ghost use Prim.Native.Nat.{_≤_};
-ghost use lib.ListN.{length};
 ghost use Rattle.amounts.specs.Decline.{checked};
 ghost use Rattle.layout.specs.Verdict.{verdictOf};
-ghost use Rattle.layout.specs.Frame.{hasTag, plainSum, weightedSum, frameChecks};
+ghost use Rattle.layout.specs.Frame.{hasTag, sumsOf, frameChecks};
 use crate::bytes;
 use crate::setup;
 use crate::verdict;
@@ -32,18 +30,19 @@ fn has_tag(s: &[u8]) -> bool
     bytes::byte_at(s, 3) == b'R'
 }
 
-fn check_sums(s: &[u8]) -> CheckSums
-    requires { ⌜ length (now s) ≤ 512 ⌝ }
-    ensures { λ r. ⌜ r ≡ record { plain = plainSum (now (s .entry)); weighted = weightedSum (now (s .entry)) } ⌝ }
+// The check sums that a block's bytes ask for, of the bytes before the place where they stand. Signed sums, since the compiler multiplies and adds signed numbers eight at a time.
+pub fn check_sums(s: &[u8]) -> CheckSums
+    ensures { λ r. ⌜ r ≡ sumsOf (now (s .entry)) ⌝ }
 {
-    let mut plain: u32 = 0;
-    let mut weighted: u32 = 0;
+    let n = bytes::lower(s.len(), 508);
+    let mut plain: i32 = 0;
+    let mut weighted: i32 = 0;
     let mut i: usize = 0;
-    while i < s.len() {
-        let x = wide(s[i]);
-        let place = i as u16 + 1;
+    while i < n {
+        let x = wide(s[i]) as i32;
+        let place = i as i16 + 1;
         plain += x;
-        weighted += x * (place as u32);
+        weighted += x * (place as i32);
         i += 1;
     }
     CheckSums {
@@ -68,7 +67,7 @@ pub fn check_frame(number: u32, s: &[u8]) -> Verdict
     if !has_tag(s) {
         return Verdict::Declined(decline::NO_BLOCK);
     }
-    let sums = check_sums(&s[..508]);
+    let sums = check_sums(s);
     let own = bytes::le16(s, 6) as u32;
     let next = verdict::row(own == number, decline::NUMBER, Verdict::Accepted);
     let kind = verdict::row(setup::is_within(1, 3, s[4]), decline::NUMBER, next);
