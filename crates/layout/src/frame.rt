@@ -5,8 +5,8 @@ ghost use Rattle.layout.specs.Verdict.{verdictOf};
 ghost use Rattle.layout.specs.Frame.{hasTag, sumsOf, frameChecks};
 use crate::bytes;
 use crate::setup;
-use crate::verdict;
 use crate::verdict::Verdict;
+use crate::verdict::row;
 use amounts::decline;
 
 // The sum of bytes, and of each byte times its place from 1, both modulo 65,521.
@@ -57,7 +57,7 @@ fn wide(x: u8) -> u32
     x as u32
 }
 
-// Declines 1 to 3. The check sums, which are dear, are those of a block by its length and tag.
+// Declines 1 to 3. No check sum is taken where the length or the tag fails, since the sums are what a block's check costs.
 pub fn check_frame(number: u32, s: &[u8]) -> Verdict
     ensures { λ r. ⌜ r ≡ verdictOf (checked (frameChecks number (now (s .entry))) (tt {0})) ⌝ }
 {
@@ -69,14 +69,14 @@ pub fn check_frame(number: u32, s: &[u8]) -> Verdict
     }
     let sums = check_sums(s);
     let own = bytes::le16(s, 6) as u32;
-    let next = verdict::row(own == number, decline::NUMBER, Verdict::Accepted);
-    let kind = verdict::row(setup::is_within(1, 3, s[4]), decline::NUMBER, next);
-    let weighted = verdict::row(
+    let next = row(own == number, decline::NUMBER, Verdict::Accepted);
+    let kind = row(setup::is_within(1, 3, s[4]), decline::NUMBER, next);
+    let weighted = row(
         bytes::le16(s, 510) == sums.weighted,
         decline::CHECK_SUM,
         kind,
     );
-    verdict::row(
+    row(
         bytes::le16(s, 508) == sums.plain,
         decline::CHECK_SUM,
         weighted,
