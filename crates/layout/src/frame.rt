@@ -1,5 +1,7 @@
 // A block's frame: its tag, its check sums, its kind and its number.
 ghost use mathlib.Core.Path.{_≡_};
+ghost use Prim.Native.Nat.{_+_, _<_};
+ghost use lib.IntN.{pos};
 ghost use Rattle.amounts.specs.Decline.{checked};
 ghost use Rattle.layout.specs.Verdict.{verdictOf};
 ghost use Rattle.layout.specs.Frame.{hasTag, sumsOf, frameChecks};
@@ -30,7 +32,7 @@ fn has_tag(s: &[u8]) -> bool
     bytes::byte_at(s, 3) == b'R'
 }
 
-// The check sums that a block's bytes ask for, of the bytes before the place where they stand. Signed sums, since the compiler multiplies and adds signed numbers eight at a time.
+// The check sums that a block's bytes ask for, of the bytes before the place where they stand.
 pub fn check_sums(s: &[u8]) -> CheckSums
     ensures { λ r. ⌜ r ≡ sumsOf (now (s .entry)) ⌝ }
 {
@@ -39,22 +41,29 @@ pub fn check_sums(s: &[u8]) -> CheckSums
     let mut weighted: i32 = 0;
     let mut i: usize = 0;
     while i < n {
-        let x = wide(s[i]) as i32;
-        let place = i as i16 + 1;
+        let x = wide(s[i]);
         plain += x;
-        weighted += x * (place as i32);
+        weighted += x * (place_of(i) as i32);
         i += 1;
     }
     CheckSums {
-        plain: (plain % 65521) as u16,
-        weighted: (weighted % 65521) as u16,
+        plain: (plain as u32 % 65521) as u16,
+        weighted: (weighted as u32 % 65521) as u16,
     }
 }
 
-fn wide(x: u8) -> u32
-    ensures { λ r. ⌜ r ≡ x ⌝ }
+fn wide(x: u8) -> i32
+    ensures { λ r. ⌜ r ≡ pos x ⌝ }
 {
-    x as u32
+    x as i32
+}
+
+// A byte's place, from 1. Signed and of 16 bits, which the compiler multiplies and adds eight at a time.
+fn place_of(i: usize) -> i16
+    requires { ⌜ i < 512 ⌝ }
+    ensures { λ r. ⌜ r ≡ pos (i + 1) ⌝ }
+{
+    (i + 1) as i16
 }
 
 // Declines 1 to 3. No check sum is taken where the length or the tag fails, since the sums are what a block's check costs.
