@@ -9,6 +9,7 @@ use Rattle.amounts.specs.Decline.{Check, check}
 use Rattle.layout.specs.Bytes.{le, part}
 use Rattle.layout.specs.Each.{sumTo}
 use Rattle.layout.specs.Setup.{within}
+use Rattle.layout.specs.declared.frame.CheckSums.{CheckSums}
 
 -- "0–3 "PRTR" in ASCII; 4 kind; 5 count; 6–7 blocks accepted so far; 8–507 body"
 abbrev pub hasTag : List ℕ → Bool
@@ -32,13 +33,16 @@ unfoldable pub weightedSum : List ℕ → ℕ
 unfolding sumTo
 weightedSum s = sumTo (length s) (λ i. getD s i 0 * (i + 1)) % 65521
 
+abbrev pub sumsOf : List ℕ → CheckSums
+sumsOf s = record { plain = plainSum (take 508 s); weighted = weightedSum (take 508 s) }
+
 -- 1 to 3
 abbrev pub frameChecks : ℕ → List ℕ → List Check
 frameChecks blocks s =
     check (eqb (length s) 512) number.noBlock
     ∷ check (hasTag s) number.noBlock
-    ∷ check (eqb (le 2 (drop 508 s)) (plainSum (take 508 s))) number.checkSum
-    ∷ check (eqb (le 2 (drop 510 s)) (weightedSum (take 508 s))) number.checkSum
+    ∷ check (eqb (le 2 (drop 508 s)) (sumsOf s .plain)) number.checkSum
+    ∷ check (eqb (le 2 (drop 510 s)) (sumsOf s .weighted)) number.checkSum
     ∷ check (within 1 3 (blockKind s)) number.blockNumber
     ∷ check (eqb (le 2 (drop 6 s)) blocks) number.blockNumber
     ∷ []

@@ -59,18 +59,26 @@ abbrev pub rowsFit : ℕ → ℕ → List ℕ → Bool
 rowsFit k n s = allTo n (λ i. rowFits k (drop (i * 32) s))
 
 -- 6: each limit, order and zero place; "Unused places are zero", and so are bytes not named
+abbrev pub materialChecks : ℕ → List ℕ → List Check
+materialChecks count body =
+    check (rowsFit count (materialsIn body) (drop 26 body)) layout
+    ∷ check (allZero (drop (26 + materialsIn body * 32) body)) layout
+    ∷ []
+
+abbrev pub substanceChecks : ℕ → List ℕ → List Check
+substanceChecks count body =
+    check (rising count (drop 2 body)) layout
+    ∷ check (allZero (part (2 + count * 2) 18 body)) layout
+    ∷ check (allClasses (part 18 (18 + count) body)) layout
+    ∷ check (allZero (part (18 + count) 26 body)) layout
+    ∷ materialChecks count body
+
 abbrev pub bodyChecks : ℕ → List ℕ → List Check
 bodyChecks count body =
     check (within 1 8 count) layout
     ∷ check (within 1 12 (materialsIn body)) layout
     ∷ check (within 1 8 (stagesIn body)) layout
-    ∷ check (rising count (drop 2 body)) layout
-    ∷ check (allZero (part (2 + count * 2) 18 body)) layout
-    ∷ check (allClasses (part 18 (18 + count) body)) layout
-    ∷ check (allZero (part (18 + count) 26 body)) layout
-    ∷ check (rowsFit count (materialsIn body) (drop 26 body)) layout
-    ∷ check (allZero (drop (26 + materialsIn body * 32) body)) layout
-    ∷ []
+    ∷ substanceChecks count body
 
 -- 4, and then 6
 abbrev pub setupChecks : Outline → ℕ → List ℕ → List Check

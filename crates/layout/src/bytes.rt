@@ -60,19 +60,37 @@ pub fn all_zero(s: &[u8]) -> bool
     true
 }
 
-fn lower(a: usize, b: usize) -> usize
+pub(crate) fn lower(a: usize, b: usize) -> usize
     ensures { λ r. ⌜ r ≡ min a b ⌝ }
 {
     if a < b { a } else { b }
 }
 
+// The bytes from a place on, as far as there are bytes.
+pub fn tail(s: &[u8], at: usize) -> &[u8]
+    ensures { λ r. ⌜ now r ≡ drop at (now (s .entry)) ⌝ }
+{
+    let start = lower(at, s.len());
+    &s[start..]
+}
+
 // The bytes from one place up to another, as far as there are bytes.
-pub fn is_zero(s: &[u8], from: usize, to: usize) -> bool
-    ensures { λ r. ⌜ r ≡ allZero (part from to (now (s .entry))) ⌝ }
+pub fn between(s: &[u8], from: usize, to: usize) -> &[u8]
+    ensures { λ r. ⌜ now r ≡ part from to (now (s .entry)) ⌝ }
 {
     let end = lower(to, s.len());
-    if from >= end {
-        return true;
-    }
-    all_zero(&s[from..end])
+    let start = lower(from, end);
+    &s[start..end]
+}
+
+pub fn zero_from(s: &[u8], at: usize) -> bool
+    ensures { λ r. ⌜ r ≡ allZero (drop at (now (s .entry))) ⌝ }
+{
+    all_zero(tail(s, at))
+}
+
+pub fn zero_between(s: &[u8], from: usize, to: usize) -> bool
+    ensures { λ r. ⌜ r ≡ allZero (part from to (now (s .entry))) ⌝ }
+{
+    all_zero(between(s, from, to))
 }

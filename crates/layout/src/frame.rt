@@ -1,14 +1,14 @@
 // A block's frame: its tag, its check sums, its kind and its number.
 ghost use mathlib.Core.Path.{_≡_};
-ghost use Prim.Native.Nat.{_≤_};
-ghost use lib.ListN.{length};
+ghost use Prim.Native.Nat.{_+_, _<_};
+ghost use lib.IntN.{pos};
 ghost use Rattle.amounts.specs.Decline.{checked};
 ghost use Rattle.layout.specs.Verdict.{verdictOf};
-ghost use Rattle.layout.specs.Frame.{hasTag, plainSum, weightedSum, frameChecks};
+ghost use Rattle.layout.specs.Frame.{hasTag, sumsOf, frameChecks};
 use crate::bytes;
 use crate::setup;
-use crate::verdict;
 use crate::verdict::Verdict;
+use crate::verdict::row;
 use amounts::decline;
 
 // The sum of bytes, and of each byte times its place from 1, both modulo 65,521.
@@ -32,33 +32,41 @@ fn has_tag(s: &[u8]) -> bool
     bytes::byte_at(s, 3) == b'R'
 }
 
-fn check_sums(s: &[u8]) -> CheckSums
-    requires { ⌜ length (now s) ≤ 512 ⌝ }
-    ensures { λ r. ⌜ r ≡ record { plain = plainSum (now (s .entry)); weighted = weightedSum (now (s .entry)) } ⌝ }
+// The check sums that a block's bytes ask for, of the bytes before the place where they stand.
+pub fn check_sums(s: &[u8]) -> CheckSums
+    ensures { λ r. ⌜ r ≡ sumsOf (now (s .entry)) ⌝ }
 {
-    let mut plain: u32 = 0;
-    let mut weighted: u32 = 0;
+    let n = bytes::lower(s.len(), 508);
+    let mut plain: i32 = 0;
+    let mut weighted: i32 = 0;
     let mut i: usize = 0;
-    while i < s.len() {
+    while i < n {
         let x = wide(s[i]);
-        let place = i as u16 + 1;
         plain += x;
-        weighted += x * (place as u32);
+        weighted += x * (place_of(i) as i32);
         i += 1;
     }
     CheckSums {
-        plain: (plain % 65521) as u16,
-        weighted: (weighted % 65521) as u16,
+        plain: (plain as u32 % 65521) as u16,
+        weighted: (weighted as u32 % 65521) as u16,
     }
 }
 
-fn wide(x: u8) -> u32
-    ensures { λ r. ⌜ r ≡ x ⌝ }
+fn wide(x: u8) -> i32
+    ensures { λ r. ⌜ r ≡ pos x ⌝ }
 {
-    x as u32
+    x as i32
 }
 
-// Declines 1 to 3. The check sums, which are dear, are those of a block by its length and tag.
+// A byte's place, from 1. Signed and of 16 bits, which the compiler multiplies and adds eight at a time.
+fn place_of(i: usize) -> i16
+    requires { ⌜ i < 512 ⌝ }
+    ensures { λ r. ⌜ r ≡ pos (i + 1) ⌝ }
+{
+    (i + 1) as i16
+}
+
+// Declines 1 to 3. No check sum is taken where the length or the tag fails, since the sums are what a block's check costs.
 pub fn check_frame(number: u32, s: &[u8]) -> Verdict
     ensures { λ r. ⌜ r ≡ verdictOf (checked (frameChecks number (now (s .entry))) (tt {0})) ⌝ }
 {
@@ -68,16 +76,16 @@ pub fn check_frame(number: u32, s: &[u8]) -> Verdict
     if !has_tag(s) {
         return Verdict::Declined(decline::NO_BLOCK);
     }
-    let sums = check_sums(&s[..508]);
+    let sums = check_sums(s);
     let own = bytes::le16(s, 6) as u32;
-    let next = verdict::row(own == number, decline::NUMBER, Verdict::Accepted);
-    let kind = verdict::row(setup::is_within(1, 3, s[4]), decline::NUMBER, next);
-    let weighted = verdict::row(
+    let next = row(own == number, decline::NUMBER, Verdict::Accepted);
+    let kind = row(setup::is_within(1, 3, s[4]), decline::NUMBER, next);
+    let weighted = row(
         bytes::le16(s, 510) == sums.weighted,
         decline::CHECK_SUM,
         kind,
     );
-    verdict::row(
+    row(
         bytes::le16(s, 508) == sums.plain,
         decline::CHECK_SUM,
         weighted,

@@ -7,8 +7,8 @@ use crate::bytes;
 use crate::outline;
 use crate::outline::Outline;
 use crate::setup;
-use crate::verdict;
 use crate::verdict::Verdict;
+use crate::verdict::row;
 use amounts::decline;
 
 // The bytes of a post.
@@ -18,10 +18,10 @@ pub const POST_SIZE: usize = 48;
 pub fn check_posts(o: Outline, closed: bool, count: u8, body: &[u8]) -> Verdict
     ensures { λ r. ⌜ r ≡ verdictOf (checked (ownChecks o closed count (now (body .entry))) (tt {0})) ⌝ }
 {
-    let end = bytes::is_zero(body, (count as usize) * POST_SIZE, body.len());
-    let zeros = verdict::row(end, decline::LAYOUT, Verdict::Accepted);
-    let posts = verdict::row(setup::is_within(1, 10, count), decline::LAYOUT, zeros);
-    let long = verdict::row(body.len() == 500, decline::LAYOUT, posts);
-    let open = verdict::row(!closed, decline::CLOSED, long);
-    verdict::row(outline::may_post(o), decline::TURN, open)
+    let end = bytes::zero_from(body, (count as usize) * POST_SIZE);
+    let zeros = row(end, decline::LAYOUT, Verdict::Accepted);
+    let posts = row(setup::is_within(1, 10, count), decline::LAYOUT, zeros);
+    let long = row(body.len() == 500, decline::LAYOUT, posts);
+    let open = row(!closed, decline::CLOSED, long);
+    row(outline::may_post(o), decline::TURN, open)
 }

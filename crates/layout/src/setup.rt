@@ -1,15 +1,15 @@
 // Kind 1: what a body says of the substances and the materials, and its limits.
 ghost use mathlib.Core.Path.{_≡_};
-ghost use Prim.Native.Nat.{_*_, _≤_};
-ghost use lib.ListN.{length};
 ghost use Rattle.amounts.specs.Content.{countedOf};
 ghost use Rattle.amounts.specs.Decline.{checked, valueOr};
 ghost use Rattle.layout.specs.Verdict.{verdictOf};
-ghost use Rattle.layout.specs.Setup.{within, numbersIn, classesIn, contentsIn, countedAll, rising, allClasses, rowSum, rowsFit, bodyChecks, setupChecks, setupOf};
+ghost use Rattle.layout.specs.Setup.{within, numbersIn, classesIn, contentsIn, countedAll, setupOf};
+ghost use Rattle.layout.specs.Setup.{rising, allClasses, rowSum, rowFits, rowsFit, materialChecks, substanceChecks, bodyChecks, setupChecks};
 use crate::bytes;
 use crate::outline;
 use crate::outline::Outline;
 use crate::verdict::Verdict;
+use crate::verdict::row;
 use amounts::class;
 use amounts::content;
 use amounts::content::Counted;
@@ -89,13 +89,13 @@ fn contents_in(body: &[u8]) -> [u32; 96]
 }
 
 // The first n numbers of 16 bits are each above the one before, and the first is above 0.
-fn is_rising(s: &[u8], n: usize) -> bool
-    requires { ⌜ n * 2 ≤ length (now s) ⌝ }
+fn is_rising(s: &[u8], n: u8) -> bool
     ensures { λ r. ⌜ r ≡ rising n (now (s .entry)) ⌝ }
 {
+    let end = n as usize;
     let mut last: u16 = 0;
     let mut i: usize = 0;
-    while i < n {
+    while i < end {
         let x = bytes::le16(s, i * 2);
         if x <= last {
             return false;
@@ -120,7 +120,6 @@ fn all_classes(s: &[u8]) -> bool
 }
 
 fn row_sum(s: &[u8]) -> u64
-    requires { ⌜ 32 ≤ length (now s) ⌝ }
     ensures { λ r. ⌜ r ≡ rowSum (now (s .entry)) ⌝ }
 {
     let mut sum: u64 = 0;
@@ -132,20 +131,23 @@ fn row_sum(s: &[u8]) -> u64
     sum
 }
 
-// The contents of n materials sum to at most 1,000,000 each, and are zero from the kth substance on.
-fn rows_fit(s: &[u8], n: usize, k: usize) -> bool
-    requires { ⌜ (n * 32 ≤ length (now s)) × (k ≤ 8) ⌝ }
+// A material's contents sum to at most 1,000,000, and are zero from the kth substance on.
+fn row_fits(s: &[u8], k: u8) -> bool
+    ensures { λ r. ⌜ r ≡ rowFits k (now (s .entry)) ⌝ }
+{
+    if row_sum(s) > 1_000_000 {
+        return false;
+    }
+    bytes::zero_between(s, (k as usize) * 4, 32)
+}
+
+fn rows_fit(s: &[u8], n: u8, k: u8) -> bool
     ensures { λ r. ⌜ r ≡ rowsFit k n (now (s .entry)) ⌝ }
 {
-    let from = k * 4;
+    let end = n as usize;
     let mut i: usize = 0;
-    while i < n {
-        let at = i * 32;
-        let row = &s[at..];
-        if row_sum(row) > 1_000_000 {
-            return false;
-        }
-        if !bytes::all_zero(&row[from..32]) {
+    while i < end {
+        if !row_fits(bytes::tail(s, i * 32), k) {
             return false;
         }
         i += 1;
@@ -174,54 +176,73 @@ fn counted_all(classes: &[u8; 8], contents: &[u32; 96]) -> [u32; 96]
     out
 }
 
+fn checked_materials(count: u8, body: &[u8]) -> Verdict
+    ensures { λ r. ⌜ r ≡ verdictOf (checked (materialChecks count (now (body .entry))) (tt {0})) ⌝ }
+{
+    let materials = bytes::byte_at(body, 0);
+    let end = bytes::zero_from(body, 26 + (materials as usize) * 32);
+    let zeros = row(end, decline::LAYOUT, Verdict::Accepted);
+    row(
+        rows_fit(bytes::tail(body, 26), materials, count),
+        decline::LAYOUT,
+        zeros,
+    )
+}
+
+fn checked_substances(count: u8, body: &[u8]) -> Verdict
+    ensures { λ r. ⌜ r ≡ verdictOf (checked (substanceChecks count (now (body .entry))) (tt {0})) ⌝ }
+{
+    let n = count as usize;
+    let contents = checked_materials(count, body);
+    let no_class = row(
+        bytes::zero_between(body, 18 + n, 26),
+        decline::LAYOUT,
+        contents,
+    );
+    let classes = row(
+        all_classes(bytes::between(body, 18, 18 + n)),
+        decline::LAYOUT,
+        no_class,
+    );
+    let no_number = row(
+        bytes::zero_between(body, 2 + n * 2, 18),
+        decline::LAYOUT,
+        classes,
+    );
+    row(
+        is_rising(bytes::tail(body, 2), count),
+        decline::LAYOUT,
+        no_number,
+    )
+}
+
 fn checked_body(count: u8, body: &[u8]) -> Verdict
-    requires { ⌜ length (now body) ≡ 500 ⌝ }
     ensures { λ r. ⌜ r ≡ verdictOf (checked (bodyChecks count (now (body .entry))) (tt {0})) ⌝ }
 {
-    let materials = body[0];
-    if !is_within(1, 8, count) {
-        return Verdict::Declined(decline::LAYOUT);
-    }
-    if !is_within(1, 12, materials) {
-        return Verdict::Declined(decline::LAYOUT);
-    }
-    if !is_within(1, 8, body[1]) {
-        return Verdict::Declined(decline::LAYOUT);
-    }
-    let n = count as usize;
-    if !is_rising(&body[2..], n) {
-        return Verdict::Declined(decline::LAYOUT);
-    }
-    if !bytes::all_zero(&body[2 + n * 2..18]) {
-        return Verdict::Declined(decline::LAYOUT);
-    }
-    if !all_classes(&body[18..18 + n]) {
-        return Verdict::Declined(decline::LAYOUT);
-    }
-    if !bytes::all_zero(&body[18 + n..26]) {
-        return Verdict::Declined(decline::LAYOUT);
-    }
-    let rows = materials as usize;
-    if !rows_fit(&body[26..], rows, n) {
-        return Verdict::Declined(decline::LAYOUT);
-    }
-    if !bytes::all_zero(&body[26 + rows * 32..]) {
-        return Verdict::Declined(decline::LAYOUT);
-    }
-    Verdict::Accepted
+    let substances = checked_substances(count, body);
+    let stages = row(
+        is_within(1, 8, bytes::byte_at(body, 1)),
+        decline::LAYOUT,
+        substances,
+    );
+    let materials = row(
+        is_within(1, 12, bytes::byte_at(body, 0)),
+        decline::LAYOUT,
+        stages,
+    );
+    row(is_within(1, 8, count), decline::LAYOUT, materials)
 }
 
 // Whether a kind 1 block's body is in its turn and within its limits, by the outline and the bytes alone.
 pub fn check_setup(o: Outline, count: u8, body: &[u8]) -> Verdict
     ensures { λ r. ⌜ r ≡ verdictOf (checked (setupChecks o count (now (body .entry))) (tt {0})) ⌝ }
 {
-    if !outline::may_set_up(o) {
-        return Verdict::Declined(decline::TURN);
-    }
-    if body.len() != 500 {
-        return Verdict::Declined(decline::LAYOUT);
-    }
-    checked_body(count, body)
+    let long = row(
+        body.len() == 500,
+        decline::LAYOUT,
+        checked_body(count, body),
+    );
+    row(outline::may_set_up(o), decline::TURN, long)
 }
 
 // What a kind 1 block's body says, whatever its bytes are.

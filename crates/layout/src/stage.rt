@@ -1,7 +1,6 @@
 // Kind 2: what a body says of a stage's destinations and of each substance's side and rates, and its limits.
 ghost use mathlib.Core.Path.{_≡_};
-ghost use Prim.Native.Nat.{_*_, _≤_};
-ghost use lib.ListN.{length, drop};
+ghost use lib.ListN.{drop};
 ghost use Rattle.amounts.specs.Decline.{checked};
 ghost use Rattle.layout.specs.Verdict.{verdictOf};
 ghost use Rattle.layout.specs.Stage.{ratesAt, ratesFit, allRatesFit, stageBodyChecks, stageChecks};
@@ -12,6 +11,7 @@ use crate::setup;
 use crate::setup::NO_RATES;
 use crate::setup::Rates;
 use crate::verdict::Verdict;
+use crate::verdict::row;
 use amounts::decline;
 
 // The rates of the row that stands from a place on, behind its side.
@@ -62,37 +62,36 @@ fn all_rates_fit(s: &[u8], n: u8) -> bool
 }
 
 fn checked_body(substances: u8, body: &[u8]) -> Verdict
-    requires { ⌜ (length (now body) ≡ 500) × (substances ≤ 8) ⌝ }
     ensures { λ r. ⌜ r ≡ verdictOf (checked (stageBodyChecks substances (now (body .entry))) (tt {0})) ⌝ }
 {
-    if !setup::is_within(1, 2, body[0]) {
-        return Verdict::Declined(decline::LAYOUT);
-    }
-    if !setup::is_within(1, 2, body[1]) {
-        return Verdict::Declined(decline::LAYOUT);
-    }
-    let n = substances as usize;
-    if !all_rates_fit(&body[2..], substances) {
-        return Verdict::Declined(decline::LAYOUT);
-    }
-    if !bytes::all_zero(&body[2 + n * 17..]) {
-        return Verdict::Declined(decline::LAYOUT);
-    }
-    Verdict::Accepted
+    let end = bytes::zero_from(body, 2 + (substances as usize) * 17);
+    let zeros = row(end, decline::LAYOUT, Verdict::Accepted);
+    let rates = row(
+        all_rates_fit(bytes::tail(body, 2), substances),
+        decline::LAYOUT,
+        zeros,
+    );
+    let residue = row(
+        setup::is_within(1, 2, bytes::byte_at(body, 1)),
+        decline::LAYOUT,
+        rates,
+    );
+    row(
+        setup::is_within(1, 2, bytes::byte_at(body, 0)),
+        decline::LAYOUT,
+        residue,
+    )
 }
 
 // Whether a kind 2 block's body is in its turn and within its limits, by the outline and the bytes alone.
 pub fn check_stage(o: Outline, stage: u8, body: &[u8]) -> Verdict
     ensures { λ r. ⌜ r ≡ verdictOf (checked (stageChecks o stage (now (body .entry))) (tt {0})) ⌝ }
 {
-    if !outline::may_describe(o, stage) {
-        return Verdict::Declined(decline::TURN);
-    }
-    if body.len() != 500 {
-        return Verdict::Declined(decline::LAYOUT);
-    }
-    if o.substances > 8 {
-        return Verdict::Declined(decline::LAYOUT);
-    }
-    checked_body(o.substances, body)
+    let few = row(
+        o.substances <= 8,
+        decline::LAYOUT,
+        checked_body(o.substances, body),
+    );
+    let long = row(body.len() == 500, decline::LAYOUT, few);
+    row(outline::may_describe(o, stage), decline::TURN, long)
 }

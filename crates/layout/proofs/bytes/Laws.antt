@@ -1,16 +1,13 @@
 -- Numbers in bytes, one law for every width. Assumes nothing.
 use mathlib.Core.Path.{_≡_, refl, sym, ap, _∙_}
-use mathlib.Core.Bool.{true}
 use mathlib.Core.List.{List, [], _∷_}
 use Prim.Native.Nat.{ℕ, zero, suc, _+_, _-_, _*_, _^_, _≤_, _<_, min}
 use native.Mathlib.Decide.{decLt}
 use native.Mathlib.Nat.{zero-add, one-mul, suc-add, mul-zero, mul-assoc, pow-succ'}
 use native.Mathlib.Omega.{arith}
-use lib.Dec.{eqb}
 use lib.ListN.{length, getD, take, drop, length-take, length-drop, drop-of-length-le, List·getD-eq-default}
-use lib.Seq.{drop-cons, drop-drop, take-all}
-use Rattle.layout.specs.Bytes.{le, part, allZero}
-use Rattle.layout.specs.Each.{allTo}
+use lib.Seq.{drop-cons, drop-drop, take-all, length-take-le, ext-getD, getD-take}
+use Rattle.layout.specs.Bytes.{le, part}
 
 le-nil : (n : ℕ) → le n [] ≡ 0
 unfolding le
@@ -53,18 +50,21 @@ two at s = omega (arith, one at s, one (at + 1) s, split-at 1 1 at s)
 pub tail-is : (from : ℕ) (s : List ℕ) → take (length s - from) (drop from s) ≡ drop from s
 tail-is from s = take-all (length s - from) (drop from s) (simp length-drop (omega arith))
 
--- a part that goes on behind the last byte ends there
-module _ (from to end : ℕ) (s : List ℕ) (e : end ≡ min to (length s)) where
-  pub none-left : end ≤ from → true ≡ allZero (part from to s)
-  unfolding allTo
-  none-left h =
-      let none : 0 ≡ length (part from to s) = simp (length-take, length-drop) (omega arith) in
-      ap (λ n. allTo n (λ i. eqb (getD (part from to s) i 0) 0)) none
+-- what `&s[start..end]` is, where a part's places are cut to the bytes that are there
+cut-length : (from to n end start : ℕ) → end ≡ min to n → start ≡ min from end → min (to - from) (n - from) ≡ end - start
+cut-length from to n end start e f = omega arith
 
-  pub part-is : take (end - from) (drop from s) ≡ part from to s
-  part-is = go (decLt (length s) to)
-    where
-      go : Dec (length s < to) → take (end - from) (drop from s) ≡ part from to s
-      go (yes h) =
-          take-all (end - from) (drop from s) (simp length-drop (omega arith)) ∙ sym (take-all (to - from) (drop from s) (simp length-drop (omega arith)))
-      go (no h) = let same : end ≡ to = omega arith in rw same
+module _ (from to end start : ℕ) (s : List ℕ) (e : end ≡ min to (length s)) (f : start ≡ min from end) where
+  long : length (take (end - start) (drop start s)) ≡ end - start
+  long = length-take-le (end - start) (drop start s) (simp length-drop (omega arith))
+
+  pub cut-is : take (end - start) (drop start s) ≡ part from to s
+  cut-is =
+      ext-getD 0 (take (end - start) (drop start s)) (part from to s)
+      (long ∙ sym (simp (length-take, length-drop) (cut-length from to (length s) end start e f)))
+      (λ i h.
+      let g : i < end - start = rw long at h in
+      let same : start ≡ from = omega arith in
+      getD-take (end - start) (drop start s) i 0 g
+      ∙ ap (λ (n : ℕ). getD (drop n s) i 0) same
+      ∙ sym (getD-take (to - from) (drop from s) i 0 (omega arith)))

@@ -1,19 +1,18 @@
--- Reading a set-up's numbers, and its rows. Assumes nothing.
+-- Reading a set-up's numbers. Assumes nothing.
 use mathlib.Core.Path.{_≡_, sym, ap, _∙_}
 use mathlib.Core.Bool.{Bool, true, false}
 use mathlib.Core.List.{List}
 use Rattle.layout.specs.declared.setup.Setup.{Setup}
-use Rattle.layout.specs.Setup.{within, materialsIn, stagesIn, noRates, numbersIn, classesIn, contentsIn, countedAll, setupOf, numberAt, before, rising, rowSum, rowFits}
-use Prim.Native.Nat.{ℕ, _+_, _-_, _*_, _≤_, _<_}
+use Rattle.layout.specs.Setup.{within, materialsIn, stagesIn, noRates, numbersIn, classesIn, contentsIn, countedAll, setupOf, numberAt, before, rising}
+use Prim.Native.Nat.{ℕ, _+_, _*_, _≤_, _<_}
 use native.Mathlib.Numerals.{add-one}
 use native.Mathlib.Omega.{arith}
 use lib.Dec.{ltb, leb}
-use lib.ListN.{length, take, drop, set, replicate}
+use lib.ListN.{drop, set, replicate}
 use lib.Seq.{drop-drop}
-use borrow.Author.Tests.{lt-ltb, le-ltb, le-leb, lt-leb, leb-true}
-use Rattle.layout.specs.Bytes.{le, les, allZero}
+use borrow.Author.Tests.{lt-ltb, le-ltb, leb-true}
+use Rattle.layout.specs.Bytes.{le, les}
 use Rattle.layout.specs.Each.{allTo, putTo}
-use Rattle.layout.proofs.bytes.Laws.{tail-is}
 use Rattle.layout.proofs.Each.{put-again, fill-done, and-true, all-again, all-fails}
 
 pub within-true : (low high n : ℕ) → within low high n ≡ true → (low ≤ n) × (n ≤ high)
@@ -45,19 +44,6 @@ module _ (n : ℕ) (s : List ℕ) (i last x : ℕ) (was : last ≡ before s i) (
 
   pub rises-again : allTo i (rises s) ≡ true → last < x → (x ≡ before s (i + 1)) × (allTo (i + 1) (rises s) ≡ true)
   rises-again all g = (rw add-one is, all-again i (rises s) all (lt-ltb (before s i) (numberAt s i) (omega arith)))
-
--- ---- rows
-
-module _ (k : ℕ) (s : List ℕ) (i : ℕ) where
-  -- the ith row, as the code takes it
-  abbrev row : List ℕ
-  row = take (length s - i * 32) (drop (i * 32) s)
-
-  pub heavy : (v : ℕ) → v ≡ rowSum row → 1000000 < v → rowFits k (drop (i * 32) s) ≡ false
-  heavy v e h = rw (← tail-is (i * 32) s, ← e, lt-leb v 1000000 h)
-
-  pub fits : (v : ℕ) (z : Bool) → v ≡ rowSum row → v ≤ 1000000 → z ≡ allZero (take (32 - k * 4) (drop (k * 4) row)) → rowFits k (drop (i * 32) s) ≡ z
-  fits v z e h u = rw (← tail-is (i * 32) s, ← e, le-leb v 1000000 h, u)
 
 -- ---- the set-up read
 

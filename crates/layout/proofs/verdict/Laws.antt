@@ -32,7 +32,8 @@ module _ {A : Type 0} where
   stop false n rows a e = refl
 
   -- a row before a table, by its test as the code has it
-  pub row-is : {v r : Verdict} {ok : Bool} (t : Bool) (n : ℕ) (rows : List Check) (a : A) → r ≡ cond ok v (Declined (record { number = n })) → ok ≡ t → v ≡ verdictOf (checked rows a) → r ≡ verdictOf (checked (check t n ∷ rows) a)
+  pub row-is : {v r : Verdict} {ok : Bool} (t : Bool) (n : ℕ) (rows : List Check) (a : A) → r ≡ cond ok v (Declined (record { number = n })) → ok ≡ t → v ≡ verdictOf (checked rows a)
+      → r ≡ verdictOf (checked (check t n ∷ rows) a)
   unfolding checked
   row-is true n rows a e o h = rw (e, o, h)
   row-is false n rows a e o h = rw (e, o)

@@ -1,7 +1,5 @@
 use mathlib.Core.Path.{ap, ap₂}
 use lib.Dec.{eqb}
-use lib.ListN.{length-take}
-use native.Mathlib.Omega.{arith}
 use borrow.Author.Tests.{eq-eqb, ne-eqb}
 use Rattle.layout.specs.declared.frame.CheckSums.{CheckSums}
 use Rattle.layout.proofs.verdict.Laws.{holds, misses, past, stop, row-is, through}
@@ -18,11 +16,8 @@ has-tag-requires c κs = search needs
 returns-2 : tie.Need-returns-2
 returns-2 c = past _ _ _ _ (eq-eqb _ _ (c .before .before .if1 .left)) (stop _ _ _ _ (misses (c .before .has-tag .ensures) (c .if2 .taken)))
 
-slice-aggregate-check-sums : tie.Need-slice-aggregate-check-sums
-slice-aggregate-check-sums c = simp length-take (omega arith)
-
 check-sums-requires : tie.Need-check-sums-requires
-check-sums-requires c κs = simp length-take (omega arith)
+check-sums-requires c κs = search needs
 
 le16-requires : tie.Need-le16-requires
 le16-requires c κs = search needs
@@ -60,7 +55,7 @@ returns-3 c =
     let kind = weighted .before .before .before in
     let next = kind .before .before .before in
     let sums = next .before .before .check-sums .ensures in
-    let tagged = next .before .before .before .before in
+    let tagged = next .before .before .before in
     let number = tagged .before .before .before .before .args .number in
     past _ _ _ _ (eq-eqb _ _ (tagged .before .before .if1 .left))
     (past _ _ _ _ (holds (tagged .before .has-tag .ensures) (tagged .if2 .left))
@@ -76,7 +71,6 @@ check-frame-spec =
     returns
     has-tag-requires
     returns-2
-    slice-aggregate-check-sums
     check-sums-requires
     le16-requires
     cast-own

@@ -19,13 +19,35 @@ byte-at-requires-3 : tie.Need-byte-at-requires-3
 byte-at-requires-3 c κs = search needs
 
 returns-3 : tie.Need-returns-3
-returns-3 c = rw (← c .before .before .before .before .before .byte-at .ensures, eq-eqb _ _ (c .before .before .before .before .if1 .left), ← c .before .before .before .byte-at2 .ensures, eq-eqb _ _ (c .before .before .if2 .left), ← c .before .byte-at3 .ensures, ne-eqb _ _ (c .if3 .taken))
+returns-3 c =
+    let first = c .before .before .before .before in
+    let second = c .before .before in
+    rw (
+      ← first .before .byte-at .ensures,
+      eq-eqb _ _ (first .if1 .left),
+      ← second .before .byte-at2 .ensures,
+      eq-eqb _ _ (second .if2 .left),
+      ← c .before .byte-at3 .ensures,
+      ne-eqb _ _ (c .if3 .taken),
+    )
 
 byte-at-requires-4 : tie.Need-byte-at-requires-4
 byte-at-requires-4 c κs = search needs
 
 returns-4 : tie.Need-returns-4
-returns-4 c = rw (← c .before .before .before .before .before .before .byte-at .ensures, eq-eqb _ _ (c .before .before .before .before .before .if1 .left), ← c .before .before .before .before .byte-at2 .ensures, eq-eqb _ _ (c .before .before .before .if2 .left), ← c .before .before .byte-at3 .ensures, eq-eqb _ _ (c .before .if3 .left), ← c .byte-at4 .ensures)
+returns-4 c =
+    let third = c .before in
+    let second = third .before .before in
+    let first = second .before .before in
+    rw (
+      ← first .before .byte-at .ensures,
+      eq-eqb _ _ (first .if1 .left),
+      ← second .before .byte-at2 .ensures,
+      eq-eqb _ _ (second .if2 .left),
+      ← third .before .byte-at3 .ensures,
+      eq-eqb _ _ (third .if3 .left),
+      ← c .byte-at4 .ensures,
+    )
 
 pub has-tag-spec : {M : Type 1} → statement M
 has-tag-spec =

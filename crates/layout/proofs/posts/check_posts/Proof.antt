@@ -1,19 +1,14 @@
-use mathlib.Core.Path.{refl, ap, _∙_}
-use denote.Ref.{now}
-use Prim.Native.Nat.{_*_}
-use Rattle.layout.specs.Bytes.{allZero}
-use Rattle.layout.specs.Posts.{postSize}
+use mathlib.Core.Path.{refl}
 use Rattle.layout.proofs.verdict.Laws.{row-is, through}
-use Rattle.layout.proofs.bytes.Laws.{tail-is}
 use borrow.Author.Needs.{needs}
 use Rattle.layout.proofs.posts.check_posts.Statement.{statement}
 use Rattle.layout.proofs.posts.check_posts.Tie as tie
 
-mul-is-zero : tie.Need-mul-is-zero
-mul-is-zero c = search needs
+mul-zero-from : tie.Need-mul-zero-from
+mul-zero-from c = search needs
 
-is-zero-requires : tie.Need-is-zero-requires
-is-zero-requires c κs = search needs
+zero-from-requires : tie.Need-zero-from-requires
+zero-from-requires c κs = search needs
 
 row-requires : tie.Need-row-requires
 row-requires c κs = search needs
@@ -42,20 +37,18 @@ returns c =
     let long = opened .before in
     let posts = long .before in
     let zeros = posts .before .before in
-    let a = zeros .before .before .before .args in
     row-is _ _ _ _ (c .row5 .ensures) (c .before .may-post .ensures)
     (row-is _ _ _ _ (opened .row4 .ensures) refl
     (row-is _ _ _ _ (long .row3 .ensures) refl
     (row-is _ _ _ _ (posts .row2 .ensures) (posts .before .is-within .ensures)
-    (row-is _ _ _ _ (zeros .row .ensures) (zeros .before .is-zero .ensures ∙ ap allZero (tail-is (a .count * postSize) (now (a .body))))
-    (through (tt {0}))))))
+    (row-is _ _ _ _ (zeros .row .ensures) (zeros .before .zero-from .ensures) (through (tt {0}))))))
 
 pub check-posts-spec : {M : Type 1} → statement M
 check-posts-spec =
     tie.close
     (tie.spec
-    mul-is-zero
-    is-zero-requires
+    mul-zero-from
+    zero-from-requires
     row-requires
     is-within-requires
     row-requires-2

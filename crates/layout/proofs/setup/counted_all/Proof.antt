@@ -53,8 +53,10 @@ loop-less c = search needs
 loop-again : tie.Need-loop-again Inv-loop μ-loop
 loop-again c =
     let k = c .before .before .before .before in
-    let a = k .before .args in
-    (omega arith, put-again (λ j. j) (counts (now (a .classes)) (now (a .contents))) (replicate 96 0) (k .loop .i) (k .loop .out) (c .counted-or-none .result) (k .loop .inv .1) (c .counted-or-none .ensures))
+    let a = k .before .args in (
+      omega arith,
+      put-again (λ j. j) (counts (now (a .classes)) (now (a .contents))) (replicate 96 0) (k .loop .i) (k .loop .out) (c .counted-or-none .result) (k .loop .inv .1) (c .counted-or-none .ensures),
+    )
 
 returns : tie.Need-returns Inv-loop μ-loop
 returns c =

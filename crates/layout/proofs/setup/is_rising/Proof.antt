@@ -13,10 +13,10 @@ use Rattle.layout.proofs.setup.is_rising.Statement.{statement}
 use Rattle.layout.proofs.setup.is_rising.Tie as tie
 
 abbrev Inv-loop : tie.InvT-loop
-Inv-loop s n last₀ i₀ last i = (i ≤ n) × (last ≡ before s i) × (allTo i (rises s) ≡ true)
+Inv-loop s n end last₀ i₀ last i = (i ≤ n) × (last ≡ before s i) × (allTo i (rises s) ≡ true)
 
 abbrev μ-loop : tie.MeasureT-loop
-μ-loop s n last₀ i₀ last i = n - i
+μ-loop s n end last₀ i₀ last i = n - i
 
 loop-holds : tie.Need-loop-holds Inv-loop μ-loop
 unfolding allTo

@@ -25,8 +25,9 @@ returns-4 c =
 
 returns-5 : tie.Need-returns-5
 returns-5 c =
-    let k = c .before .before .before .before .before .before .before in
-    rw (holds (k .before .is-within .ensures) (k .if1 .left), le-leb _ _ (c .before .before .before .before .before .if2 .left), le-leb _ _ (c .before .before .before .if3 .left), le-leb _ _ (c .before .if4 .left))
+    let k = c .before .before .before in
+    let h = holds (k .before .before .before .before .before .is-within .ensures) (k .before .before .before .before .if1 .left) in
+    rw (h, le-leb _ _ (k .before .before .if2 .left), le-leb _ _ (k .if3 .left), le-leb _ _ (c .before .if4 .left))
 
 pub rates-fit-spec : {M : Type 1} → statement M
 rates-fit-spec =
