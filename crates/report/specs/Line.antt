@@ -1,0 +1,102 @@
+-- What a report shows of a substance but the store (document 01, "Treatment and report").
+use Prim.Native.Nat.{ℕ, _+_, _*_}
+use mathlib.Core.Bool.{cond}
+use mathlib.Core.List.{List}
+use lib.Dec.{eqb}
+use lib.ListN.{getD}
+use Rattle.amounts.specs.Treatment.{partsOf}
+use Rattle.amounts.specs.declared.treatment.Parts.{Parts}
+use Rattle.layout.specs.Each.{sumTo}
+use Rattle.layout.specs.Setup.{noRates}
+use Rattle.layout.specs.declared.setup.Rates.{Rates}
+use Rattle.layout.specs.declared.setup.Setup.{Setup}
+use Rattle.post.specs.Account.{held, shipped, offSite, landfill, soil, consumed, gas, water, vapour}
+use Rattle.book.specs.Ledger.{cell}
+use Rattle.report.specs.declared.line.Cells.{Cells}
+use Rattle.report.specs.declared.line.Headings.{Headings}
+use Rattle.report.specs.declared.line.Line.{Line}
+
+-- an amount by where it goes: a destination that isn't the first is the second
+abbrev pub atOne : ℕ → ℕ → ℕ
+atOne destination n = cond (eqb destination 1) n 0
+
+abbrev pub atTwo : ℕ → ℕ → ℕ
+atTwo destination n = cond (eqb destination 1) 0 n
+
+-- the rates of a stage and a substance
+abbrev pub ratesOf : Setup → ℕ → ℕ → Rates
+ratesOf u stage s = getD (u .rates) (stage * 8 + s) noRates
+
+-- the year's totals of a stage and a substance, by account
+abbrev pub cellsOf : List ℕ → ℕ → ℕ → Cells
+cellsOf sums stage s =
+    record {
+      held = cell sums held stage s;
+      shipped = cell sums shipped stage s;
+      «off_site» = cell sums offSite stage s;
+      landfill = cell sums landfill stage s;
+      soil = cell sums soil stage s;
+      consumed = cell sums consumed stage s;
+      gas = cell sums gas stage s;
+      water = cell sums water stage s;
+      vapour = cell sums vapour stage s;
+    }
+
+-- Of a stage, with its gas and its waste water as split: "air (gas released and vapour), public water, soil, landfill, sewer, off site. Treated water goes to
+-- public water or sewer, residues to off site or landfill, as the stage says": 1 public water, 2 sewer; 1 off site, 2 landfill.
+abbrev pub lineFrom : Cells → Parts → Parts → ℕ → ℕ → Line
+lineFrom c g w waterTo residueTo =
+    record {
+      held = c .held;
+      shipped = c .shipped;
+      consumed = c .consumed;
+      destroyed = g .destroyed + w .destroyed;
+      headings =
+          record {
+            air = g .released + c .vapour;
+            water = atOne waterTo (w .released);
+            soil = c .soil;
+            land = c .landfill + atTwo residueTo (g .residue + w .residue);
+            sewer = atTwo waterTo (w .released);
+            offsite = c .«off_site» + atOne residueTo (g .residue + w .residue);
+          };
+    }
+
+-- the split of the gas and of the waste water, each by its own rates: "made on the year's totals, at the report"
+abbrev pub lineFor : Cells → Rates → ℕ → ℕ → Line
+lineFor c r waterTo residueTo =
+    lineFrom c (partsOf (c .gas) (r .«gas_removal») (r .«gas_destruction»)) (partsOf (c .water) (r .«water_removal») (r .«water_destruction»)) waterTo residueTo
+
+abbrev pub stageLine : List ℕ → Setup → ℕ → ℕ → Line
+stageLine sums u s stage = lineFor (cellsOf sums stage s) (ratesOf u stage s) (getD (u .«water_to») stage 0) (getD (u .«residue_to») stage 0)
+
+-- "Per substance, over all stages": here over the first n
+unfoldable pub lineTo : List ℕ → Setup → ℕ → ℕ → Line
+lineTo sums u s n =
+    record {
+      held = sumTo n (λ k. stageLine sums u s k .held);
+      shipped = sumTo n (λ k. stageLine sums u s k .shipped);
+      consumed = sumTo n (λ k. stageLine sums u s k .consumed);
+      destroyed = sumTo n (λ k. stageLine sums u s k .destroyed);
+      headings =
+          record {
+            air = sumTo n (λ k. stageLine sums u s k .headings .air);
+            water = sumTo n (λ k. stageLine sums u s k .headings .water);
+            soil = sumTo n (λ k. stageLine sums u s k .headings .soil);
+            land = sumTo n (λ k. stageLine sums u s k .headings .land);
+            sewer = sumTo n (λ k. stageLine sums u s k .headings .sewer);
+            offsite = sumTo n (λ k. stageLine sums u s k .headings .offsite);
+          };
+    }
+
+-- all six headings, and all that a report shows without the store
+abbrev pub sixOf : Headings → ℕ
+sixOf h = h .air + h .water + h .soil + h .land + h .sewer + h .offsite
+
+abbrev pub weigh : Line → ℕ
+weigh x = x .held + x .shipped + x .consumed + x .destroyed + sixOf (x .headings)
+
+-- each heading through a function
+abbrev pub mapHeadings : (ℕ → ℕ) → Headings → Headings
+mapHeadings f h =
+    record { air = f (h .air); water = f (h .water); soil = f (h .soil); land = f (h .land); sewer = f (h .sewer); offsite = f (h .offsite) }

@@ -1,0 +1,195 @@
+// What a report shows but the store: a stage's line, and the lines of all stages added up.
+ghost use mathlib.Core.Path.{_≡_};
+ghost use Prim.Native.Nat.{_+_, _^_, _≤_, _<_};
+ghost use Rattle.amounts.specs.Treatment.{partsOf};
+ghost use Rattle.book.specs.Ledger.{total};
+ghost use Rattle.book.specs.Site.{Rated, SoundSetup};
+ghost use Rattle.report.specs.Line.{atOne, atTwo, ratesOf, cellsOf, lineFrom, stageLine, lineTo, sixOf, weigh};
+ghost use Rattle.report.specs.Steps.{addHeadings, addLines};
+use amounts::treatment;
+use amounts::treatment::Parts;
+use amounts::treatment::Split;
+use layout::setup::Setup;
+use post::account;
+
+// In micrograms.
+pub struct Headings {
+    pub air: u64,
+    pub water: u64,
+    pub soil: u64,
+    pub land: u64,
+    pub sewer: u64,
+    pub offsite: u64,
+}
+
+pub struct Line {
+    pub held: u64,
+    pub shipped: u64,
+    pub consumed: u64,
+    pub destroyed: u64,
+    pub headings: Headings,
+}
+
+// What a stage's accounts hold of a substance.
+struct Cells {
+    held: u64,
+    shipped: u64,
+    off_site: u64,
+    landfill: u64,
+    soil: u64,
+    consumed: u64,
+    gas: u64,
+    water: u64,
+    vapour: u64,
+}
+
+fn cells_of(sums: &[u64; 576], stage: usize, s: usize) -> Cells
+    requires { ⌜ (stage < 8) × (s < 8) ⌝ }
+    ensures { λ r. ⌜ r ≡ cellsOf (now (sums .entry)) stage s ⌝ }
+{
+    let pair = stage * 8 + s;
+    Cells {
+        held: sums[account::HELD * 64 + pair],
+        shipped: sums[account::SHIPPED * 64 + pair],
+        off_site: sums[account::OFF_SITE * 64 + pair],
+        landfill: sums[account::LANDFILL * 64 + pair],
+        soil: sums[account::SOIL * 64 + pair],
+        consumed: sums[account::CONSUMED * 64 + pair],
+        gas: sums[account::GAS * 64 + pair],
+        water: sums[account::WATER * 64 + pair],
+        vapour: sums[account::VAPOUR * 64 + pair],
+    }
+}
+
+fn parts_of(total: u64, removal: u32, destruction: u32) -> Parts
+    requires { ⌜ (removal ≤ 1000000) × (destruction ≤ 1000000) ⌝ }
+    ensures { λ r. ⌜ r ≡ partsOf total removal destruction ⌝ }
+{
+    match treatment::split_total(total, removal, destruction) {
+        Split::Into(parts) => parts,
+        Split::Declined(_) => Parts {
+            released: total,
+            destroyed: 0,
+            residue: 0,
+        },
+    }
+}
+
+fn at_one(destination: u8, n: u64) -> u64
+    ensures { λ r. ⌜ r ≡ atOne destination n ⌝ }
+{
+    if destination == 1 { n } else { 0 }
+}
+
+fn at_two(destination: u8, n: u64) -> u64
+    ensures { λ r. ⌜ r ≡ atTwo destination n ⌝ }
+{
+    if destination == 1 { 0 } else { n }
+}
+
+// A stage's line, with its gas and its waste water as split.
+fn line_from(c: Cells, gas: Parts, water: Parts, water_to: u8, residue_to: u8) -> Line
+    requires { ⌜ weigh (lineFrom c gas water «water_to» «residue_to») < 2 ^ 64 ⌝ }
+    ensures { λ r. ⌜ r ≡ lineFrom c gas water «water_to» «residue_to» ⌝ }
+{
+    let residue = gas.residue + water.residue;
+    let destroyed = gas.destroyed + water.destroyed;
+    let air = gas.released + c.vapour;
+    let clean = at_one(water_to, water.released);
+    let sewer = at_two(water_to, water.released);
+    let offsite = c.off_site + at_one(residue_to, residue);
+    let land = c.landfill + at_two(residue_to, residue);
+    Line {
+        held: c.held,
+        shipped: c.shipped,
+        consumed: c.consumed,
+        destroyed,
+        headings: Headings {
+            air,
+            water: clean,
+            soil: c.soil,
+            land,
+            sewer,
+            offsite,
+        },
+    }
+}
+
+fn stage_line(sums: &[u64; 576], setup: Setup, s: usize, stage: usize) -> Line
+    requires { ⌜ (stage < 8) × (s < 8) ⌝ }
+    requires { ⌜ Rated (ratesOf setup stage s) ⌝ }
+    requires { ⌜ weigh (stageLine (now sums) setup s stage) < 2 ^ 64 ⌝ }
+    ensures { λ r. ⌜ r ≡ stageLine (now (sums .entry)) setup s stage ⌝ }
+{
+    let c = cells_of(sums, stage, s);
+    let r = setup.rates[stage * 8 + s];
+    let gas = parts_of(c.gas, r.gas_removal, r.gas_destruction);
+    let water = parts_of(c.water, r.water_removal, r.water_destruction);
+    line_from(
+        c,
+        gas,
+        water,
+        setup.water_to[stage],
+        setup.residue_to[stage],
+    )
+}
+
+fn add_headings(x: Headings, y: Headings) -> Headings
+    requires { ⌜ sixOf x + sixOf y < 2 ^ 64 ⌝ }
+    ensures { λ r. ⌜ r ≡ addHeadings x y ⌝ }
+{
+    Headings {
+        air: x.air + y.air,
+        water: x.water + y.water,
+        soil: x.soil + y.soil,
+        land: x.land + y.land,
+        sewer: x.sewer + y.sewer,
+        offsite: x.offsite + y.offsite,
+    }
+}
+
+fn add_lines(x: Line, y: Line) -> Line
+    requires { ⌜ weigh x + weigh y < 2 ^ 64 ⌝ }
+    ensures { λ r. ⌜ r ≡ addLines x y ⌝ }
+{
+    let a = x.headings;
+    let b = y.headings;
+    Line {
+        held: x.held + y.held,
+        shipped: x.shipped + y.shipped,
+        consumed: x.consumed + y.consumed,
+        destroyed: x.destroyed + y.destroyed,
+        headings: add_headings(a, b),
+    }
+}
+
+const NO_LINE: Line = Line {
+    held: 0,
+    shipped: 0,
+    consumed: 0,
+    destroyed: 0,
+    headings: Headings {
+        air: 0,
+        water: 0,
+        soil: 0,
+        land: 0,
+        sewer: 0,
+        offsite: 0,
+    },
+};
+
+// The lines of all stages, added up.
+pub(crate) fn line_to(sums: &[u64; 576], setup: Setup, s: usize) -> Line
+    requires { ⌜ SoundSetup setup ⌝ }
+    requires { ⌜ (s < 8) × (total (now sums) s < 2 ^ 64) ⌝ }
+    ensures { λ r. ⌜ r ≡ lineTo (now (sums .entry)) setup s 8 ⌝ }
+{
+    let mut acc = NO_LINE;
+    let mut k: usize = 0;
+    while k < 8 {
+        let line = stage_line(sums, setup, s, k);
+        acc = add_lines(acc, line);
+        k += 1;
+    }
+    acc
+}
