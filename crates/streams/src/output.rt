@@ -1,4 +1,5 @@
 // Standard output. Behind a write that failed nothing more is written.
+ghost use mathlib.Core.Bool.{false};
 ghost use mathlib.Core.Path.{_≡_};
 ghost use Rattle.streams.specs.Output.{Stays};
 use libc::STDOUT_FILENO;
@@ -7,7 +8,9 @@ pub struct Output {
     failed: bool,
 }
 
-pub fn start() -> Output {
+pub fn start() -> Output
+    ensures { λ r. ⌜ r .failed ≡ false ⌝ }
+{
     Output { failed: false }
 }
 

@@ -1,6 +1,7 @@
 use native.Mathlib.Omega.{arith}
 use mathlib.Core.Path.{_≡_, refl}
-use mathlib.Core.List.{_++_}
+use mathlib.Core.List.{List, _++_}
+use Prim.Native.Nat.{ℕ}
 use lib.ListN.{length, drop, length-take}
 use borrow.Author.Needs.{needs}
 use Rattle.replay.specs.declared.record.Record.the-variants.{Malformed, Failed}
@@ -8,7 +9,11 @@ use Rattle.replay.proofs.record.Laws.{as-long, full-falls, no-call}
 use Rattle.replay.proofs.record.body.Statement.{statement}
 use Rattle.replay.proofs.record.body.Tie as tie
 
-back : (k : tie.After-read-part) → let s = k .before .before .before in length (k .read-part .last .1 .0 ++ drop (s .args .size) (s .args .space .now)) ≡ length (s .args .space .now)
+-- the space with the part in it, as long as it was
+abbrev after : tie.After-read-part → List ℕ
+after k = let s = k .before .before .before in k .read-part .last .1 .0 ++ drop (s .args .size) (s .args .space .now)
+
+back : (k : tie.After-read-part) → length (after k) ≡ length (k .before .before .before .args .space .now)
 back k = let s = k .before .before .before in as-long (s .args .space .now) (k .read-part .last .1 .0) (s .args .size) (k .read-part .ensures .same-length)
 
 slice-relend-prefix-read-part : tie.Need-slice-relend-prefix-read-part
@@ -50,27 +55,21 @@ same-length-2 c = search needs
 
 returns-2 : tie.Need-returns-2
 returns-2 c =
-    let k = c .before .before .before .before .before in
-    let s = k .before .before .before in
-    no-call (s .args .from) (s .args .space .now) (k .read-part .last .1 .0 ++ drop (s .args .size) (s .args .space .now)) (record { «record» = Malformed; input = k .read-part .result .input }) (back k) refl tt
+    let k = c .before .before .before .before .before in no-call (k .before .before .before .args .from) _ (after k) (record { «record» = Malformed; input = k .read-part .result .input }) (back k) refl tt
 
 same-length-3 : tie.Need-same-length-3
 same-length-3 c = search needs
 
 returns-3 : tie.Need-returns-3
 returns-3 c =
-    let k = c .before .before .before .before .before in
-    let s = k .before .before .before in
-    no-call (s .args .from) (s .args .space .now) (k .read-part .last .1 .0 ++ drop (s .args .size) (s .args .space .now)) (record { «record» = Malformed; input = k .read-part .result .input }) (back k) refl tt
+    let k = c .before .before .before .before .before in no-call (k .before .before .before .args .from) _ (after k) (record { «record» = Malformed; input = k .read-part .result .input }) (back k) refl tt
 
 same-length-4 : tie.Need-same-length-4
 same-length-4 c = search needs
 
 returns-4 : tie.Need-returns-4
 returns-4 c =
-    let k = c .before .before .before .before .before in
-    let s = k .before .before .before in
-    no-call (s .args .from) (s .args .space .now) (k .read-part .last .1 .0 ++ drop (s .args .size) (s .args .space .now)) (record { «record» = Failed; input = k .read-part .result .input }) (back k) refl tt
+    let k = c .before .before .before .before .before in no-call (k .before .before .before .args .from) _ (after k) (record { «record» = Failed; input = k .read-part .result .input }) (back k) refl tt
 
 pub body-spec : {M : Type 1} → statement M
 body-spec =

@@ -7,7 +7,6 @@ use mir.Val.{toZ, ofZ}
 use mir.ValLaws.{toZ-ofZ}
 use Rattle.libc.specs.Io.{Moved}
 use Rattle.streams.specs.Input.{afterRead}
-use Rattle.streams.specs.declared.input.Progress.the-variants.{More}
 use Rattle.streams.proofs.input.Laws.{not-negative, within, it-fails, it-brings, ends-short, ends-here}
 use Rattle.streams.proofs.input.after_read.Statement.{statement}
 use Rattle.streams.proofs.input.after_read.Tie as tie
@@ -23,20 +22,21 @@ back c = toZ-ofZ w64 (c .args .got) (c .fits .got)
 likewise : (c : tie.Start) → afterRead (c .args .done) (answer c) ≡ afterRead (c .args .done) (c .args .got)
 likewise c = ap (afterRead (c .args .done)) (back c)
 
-moved : (c : tie.Start) → Moved (c .args .room - c .args .done) (answer c)
-moved c = subst (Moved (c .args .room - c .args .done)) (sym (back c)) (c .pre .1)
+-- it brings no more than are free
+brought : (c : tie.Then2) → let s = c .before .before in natAbs (answer s) ≤ s .args .room - s .args .done
+brought c =
+    let s = c .before .before in
+    let room = s .args .room - s .args .done in
+    within (answer s) room (subst (Moved room) (sym (back s)) (s .pre .1)) (c .if2 .taken)
 
 returns : tie.Need-returns
 returns c = it-fails (c .before .args .done) (answer (c .before)) (c .if1 .taken) ∙ likewise (c .before)
 
 cast-t6 : tie.Need-cast-t6
-cast-t6 c = (
-  not-negative (answer (c .before .before)) (c .if2 .taken),
-  record { fits = omega (arith, within (answer (c .before .before)) (c .before .before .args .room - c .before .before .args .done) (moved (c .before .before)) (c .if2 .taken), c .before .before .fits .room .fits) },
-)
+cast-t6 c = (not-negative (answer (c .before .before)) (c .if2 .taken), record { fits = omega (arith, brought c, c .before .before .fits .room .fits) })
 
 add-t7 : tie.Need-add-t7
-add-t7 c = record { fits = omega (arith, within (answer (c .before .before)) (c .before .before .args .room - c .before .before .args .done) (moved (c .before .before)) (c .if2 .taken), c .before .before .pre .0, c .before .before .fits .room .fits) }
+add-t7 c = record { fits = omega (arith, brought c, c .before .before .pre .0, c .before .before .fits .room .fits) }
 
 returns-2 : tie.Need-returns-2
 returns-2 c = it-brings (c .before .before .args .done) (answer (c .before .before)) (c .if2 .taken) ∙ likewise (c .before .before)

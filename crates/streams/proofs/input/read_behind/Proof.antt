@@ -26,7 +26,8 @@ returns c =
     let k = c .before .before in
     let start = k .before .before .before in
     let z = k .read-again .result in
-    goes-behind (start .args .done) (start .args .part .now) (k .read-again .last .0) z (toZ w64 (ofZ w64 z)) (start .pre) (k .read-again .ensures .1) (toZ-ofZ w64 z (record { sfits = k .read-again .ok })) (k .read-again .ensures .0)
+    goes-behind (start .args .done) (start .args .part .now) (k .read-again .last .0) z (toZ w64 (ofZ w64 z)) (start .pre)
+    (k .read-again .ensures .1) (toZ-ofZ w64 z (record { sfits = k .read-again .ok })) (k .read-again .ensures .0)
 
 pub read-behind-spec : {M : Type 1} → statement M
 read-behind-spec =
