@@ -25,8 +25,6 @@ fn read_journal() -> Journal
         source = taken.input;
         let part = taken.part;
         match part {
-            Part::Full => reading = reading::feed(reading, &space),
-            Part::Short(n) => reading = reading::feed(reading, &space[..n]),
             Part::End => {
                 return Journal {
                     reading,
@@ -39,7 +37,9 @@ fn read_journal() -> Journal
                     is_whole: false,
                 };
             }
+            Part::Full | Part::Short(_) => {}
         }
+        reading = reading::feed(reading, input::held(part, &space));
     }
     Journal {
         reading,

@@ -1,5 +1,5 @@
 -- Standard input, a part at a time. What a read brings, no contract says; what is said of its answer is.
-use Prim.Native.Nat.{ℕ, _+_, _-_, _^_, _≤_, _<_}
+use Prim.Native.Nat.{ℕ, _+_, _-_, _^_, _<_, min}
 use mathlib.Core.Path.{_≡_}
 use mathlib.Core.Bool.{Bool, false, cond}
 use mathlib.Core.List.{List}
@@ -41,7 +41,14 @@ abbrev pub afterRead : ℕ → ℤ → Progress
 afterRead done (negsuc n) = Done Failed
 afterRead done (pos n) = cond (eqb n 0) (Done (endBehind done)) (More (done + n))
 
--- which bytes are there: the first n of a short part, fewer than were asked for
+-- how many of the bytes asked for a part holds, from the first on: an end or a failure gives none
+abbrev pub bytesIn : ℕ → Part → ℕ
+bytesIn room Full = room
+bytesIn room (Short n) = min n room
+bytesIn room End = 0
+bytesIn room Failed = 0
+
+-- a short part has at least one byte, and fewer than were asked for
 abbrev pub Holds : ℕ → Part → Type 0
 Holds room Full = Unit {0}
 Holds room (Short n) = (0 < n) × (n < room)

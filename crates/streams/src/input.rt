@@ -1,9 +1,9 @@
 // Standard input, a part at a time.
 ghost use mathlib.Core.Path.{_≡_};
 ghost use Prim.Native.Nat.{_-_, _≤_};
-ghost use lib.ListN.{length};
+ghost use lib.ListN.{length, take};
 ghost use Rattle.libc.specs.Io.{Moved};
-ghost use Rattle.streams.specs.Input.{mostParts, wasInterrupted, Behind, afterRead, Filled, Reads};
+ghost use Rattle.streams.specs.Input.{mostParts, wasInterrupted, Behind, afterRead, Filled, Reads, bytesIn};
 use libc::STDIN_FILENO;
 
 // What became of a part that was asked for: all its bytes, the last few before the end, the end, or an input that can't be read.
@@ -124,4 +124,29 @@ pub fn read_part(from: Input, part: &mut [u8]) -> Taken
         part: fill(part),
         input,
     }
+}
+
+fn count_of(part: Part, room: usize) -> usize
+    ensures { λ r. ⌜ r ≡ bytesIn room part ⌝ }
+    ensures { λ r. ⌜ r ≤ room ⌝ }
+{
+    match part {
+        Part::Full => room,
+        Part::Short(n) => {
+            if n < room {
+                return n;
+            }
+            room
+        }
+        Part::End => 0,
+        Part::Failed => 0,
+    }
+}
+
+// The bytes that a part holds, of the space that it was read into.
+pub fn held(part: Part, space: &[u8]) -> &[u8]
+    ensures { λ r. ⌜ now r ≡ take (bytesIn (length (now (space .entry))) part) (now (space .entry)) ⌝ }
+{
+    let n = count_of(part, space.len());
+    &space[..n]
 }
