@@ -55,21 +55,24 @@ same-length-2 c = search needs
 
 returns-2 : tie.Need-returns-2
 returns-2 c =
-    let k = c .before .before .before .before .before in no-call (k .before .before .before .args .from) _ (after k) (record { «record» = Malformed; input = k .read-part .result .input }) (back k) refl tt
+    let k = c .before .before .before .before .before in
+    no-call (k .before .before .before .args .from) _ (after k) (record { «record» = Malformed; input = k .read-part .result .input }) (back k) refl tt
 
 same-length-3 : tie.Need-same-length-3
 same-length-3 c = search needs
 
 returns-3 : tie.Need-returns-3
 returns-3 c =
-    let k = c .before .before .before .before .before in no-call (k .before .before .before .args .from) _ (after k) (record { «record» = Malformed; input = k .read-part .result .input }) (back k) refl tt
+    let k = c .before .before .before .before .before in
+    no-call (k .before .before .before .args .from) _ (after k) (record { «record» = Malformed; input = k .read-part .result .input }) (back k) refl tt
 
 same-length-4 : tie.Need-same-length-4
 same-length-4 c = search needs
 
 returns-4 : tie.Need-returns-4
 returns-4 c =
-    let k = c .before .before .before .before .before in no-call (k .before .before .before .args .from) _ (after k) (record { «record» = Failed; input = k .read-part .result .input }) (back k) refl tt
+    let k = c .before .before .before .before .before in
+    no-call (k .before .before .before .args .from) _ (after k) (record { «record» = Failed; input = k .read-part .result .input }) (back k) refl tt
 
 pub body-spec : {M : Type 1} → statement M
 body-spec =

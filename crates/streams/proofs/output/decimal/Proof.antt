@@ -3,19 +3,13 @@ use mathlib.Core.Bool.{true≢false}
 use borrow.Author.Needs.{needs}
 use Rattle.streams.proofs.output.decimal.Statement.{statement}
 use Rattle.streams.proofs.output.decimal.Tie as tie
-use Rattle.streams.proofs.output.decimal.Reads as reads
-use Rattle.streams.proofs.output.decimal.Lts as lts
-use Rattle.io.proofs.print_decimal.Reads as print-decimal-reads
 
--- src/output.rt:35:9
 returns : tie.Need-returns
 returns c = search needs
 
--- src/output.rt:38:18
 print-decimal-requires : tie.Need-print-decimal-requires
 print-decimal-requires c κs = search needs
 
--- src/output.rt:31:1
 returns-2 : tie.Need-returns-2
 returns-2 c h = absurd (true≢false (sym h ∙ c .before .if1 .left))
 

@@ -3,19 +3,13 @@ use mathlib.Core.Bool.{true≢false}
 use borrow.Author.Needs.{needs}
 use Rattle.streams.proofs.output.text.Statement.{statement}
 use Rattle.streams.proofs.output.text.Tie as tie
-use Rattle.streams.proofs.output.text.Reads as reads
-use Rattle.streams.proofs.output.text.Lts as lts
-use Rattle.io.proofs.write_all.Reads as write-all-reads
 
--- src/output.rt:24:9
 returns : tie.Need-returns
 returns c = search needs
 
--- src/output.rt:27:18
 write-all-requires : tie.Need-write-all-requires
 write-all-requires c κs = search needs
 
--- src/output.rt:20:1
 returns-2 : tie.Need-returns-2
 returns-2 c h = absurd (true≢false (sym h ∙ c .before .if1 .left))
 
