@@ -3,53 +3,69 @@ ghost use Rattle.book.specs.Site.{Sound};
 use journal::reading;
 use journal::reading::Reading;
 use journal::text::Written;
-use libc::STDERR_FILENO;
-use libc::STDIN_FILENO;
-use libc::STDOUT_FILENO;
+use streams::input;
+use streams::input::Part;
+use streams::output;
+use streams::trouble;
 
-// No book takes more than 4,010 blocks: after as many parts and one more the input has ended or a part was refused.
-fn read_journal() -> Reading
-    ensures { λ r. ⌜ Sound (r .book) ⌝ }
+// What was read up to the end of the input or to the first decline, or to a read that failed.
+struct Journal {
+    reading: Reading,
+    is_whole: bool,
+}
+
+fn read_journal() -> Journal
+    ensures { λ r. ⌜ Sound (r .reading .book) ⌝ }
 {
-    let mut state = reading::start();
-    let mut part = [0u8; 512];
-    let mut left: usize = 4011;
-    while left > 0 {
-        let n = io::read_full(STDIN_FILENO, &mut part);
-        if n == 0 {
-            return state;
+    let mut reading = reading::start();
+    let mut source = input::start();
+    let mut space = [0u8; 512];
+    while !reading::has_stopped(reading) {
+        let taken = input::read_part(source, &mut space);
+        source = taken.input;
+        let part = taken.part;
+        match part {
+            Part::End => {
+                return Journal {
+                    reading,
+                    is_whole: true,
+                };
+            }
+            Part::Failed => {
+                return Journal {
+                    reading,
+                    is_whole: false,
+                };
+            }
+            Part::Full | Part::Short(_) => {}
         }
-        state = reading::feed(state, &part[..n]);
-        if reading::has_stopped(state) {
-            return state;
-        }
-        left -= 1;
+        reading = reading::feed(reading, input::held(part, &space));
     }
-    state
+    Journal {
+        reading,
+        is_whole: true,
+    }
 }
 
-// Whether standard input answers an error: what was read up to it is no journal to file from.
-fn input_fails() -> bool {
-    let mut rest = [0u8; 512];
-    libc::read(STDIN_FILENO, &mut rest) < 0
-}
-
+// The text at the start of a buffer on standard output.
 fn show(out: &[u8], n: usize) {
     if n <= out.len() {
-        io::write_all(STDOUT_FILENO, &out[..n]);
+        let written = output::text(output::start(), &out[..n]);
+        if output::has_failed(written) {
+            trouble::unwritten(b"filing");
+        }
     }
 }
 
 fn main() {
-    let state = read_journal();
-    if !reading::has_stopped(state) {
-        if input_fails() {
-            io::write_all(STDERR_FILENO, b"filing: standard input can't be read\n");
-            return;
-        }
+    let journal = read_journal();
+    if !journal.is_whole {
+        trouble::unread(b"filing");
+        return;
     }
+    let reading = journal.reading;
     let mut out = [0u8; 1336];
-    if let Written::At(n) = reading::print(state, &mut out) {
+    if let Written::At(n) = reading::print(reading, &mut out) {
         show(&out, n);
     }
 }

@@ -1,5 +1,6 @@
 -- Reading a journal, and what `filing` prints (document 01, "`filing`").
-use Prim.Native.Nat.{ℕ, zero, suc, _+_}
+use Prim.Native.Nat.{ℕ, zero, suc, _+_, _-_, _<_}
+use mathlib.Core.Path.{_≡_}
 use mathlib.Core.Bool.{Bool, true, false, cond}
 use mathlib.Core.List.{List, [], _∷_, _++_}
 use lib.Dec.{eqb}
@@ -90,3 +91,15 @@ textWhile (By d) b = refusedText (b .blocks) (d .number)
 
 abbrev pub textOf : state.Reading → List ℕ
 textOf r = textWhile (r .stopped) (r .book)
+
+-- how many parts a reading may still take: one for each number of 16 bits that no block has had, and the one that is declined
+abbrev pub leftWhile : Stopped → Book → ℕ
+leftWhile No b = suc (65536 - b .blocks)
+leftWhile (By d) b = 0
+
+abbrev pub partsLeft : state.Reading → ℕ
+partsLeft r = leftWhile (r .stopped) (r .book)
+
+-- a part that is fed leaves fewer
+abbrev pub Advances : state.Reading → state.Reading → Type 0
+Advances r x = hasStopped r ≡ false → partsLeft x < partsLeft r

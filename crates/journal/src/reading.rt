@@ -3,7 +3,7 @@ ghost use mathlib.Core.Path.{_≡_};
 ghost use Prim.Native.Nat.{_+_, _≤_, min};
 ghost use lib.ListN.{length};
 ghost use Rattle.book.specs.Site.{Sound};
-ghost use Rattle.journal.specs.Reading.{partsIn, started, fed, fedAll, hasStopped, returnText, textOf};
+ghost use Rattle.journal.specs.Reading.{partsIn, started, fed, fedAll, hasStopped, returnText, textOf, Advances};
 ghost use Rattle.journal.specs.Writing.{Puts, Tries};
 use crate::block;
 use crate::text;
@@ -40,6 +40,7 @@ pub fn feed(r: Reading, part: &[u8]) -> Reading
     requires { ⌜ Sound (r .book) ⌝ }
     ensures { λ x. ⌜ x ≡ fed r (now (part .entry)) ⌝ }
     ensures { λ x. ⌜ Sound (x .book) ⌝ }
+    ensures { λ x. ⌜ Advances r x ⌝ }
 {
     let stopped = r.stopped;
     if let Stopped::By(_) = stopped {

@@ -5,84 +5,71 @@ use book::report::Line;
 use book::report::Report;
 use book::report::Reported;
 use layout::verdict::Verdict;
-use libc::STDOUT_FILENO;
+use streams::output::Output;
+use streams::output::decimal;
+use streams::output::text;
 
-pub(crate) fn text(bytes: &[u8]) {
-    io::write_all(STDOUT_FILENO, bytes);
+fn field(o: Output, n: u64) -> Output {
+    decimal(text(o, b" "), n)
 }
 
-fn field(n: u64) {
-    text(b" ");
-    io::print_decimal(STDOUT_FILENO, n);
-}
-
-fn last(n: u8) {
-    io::print_decimal(STDOUT_FILENO, n as u64);
-    text(b"\n");
+fn last(o: Output, n: u8) -> Output {
+    text(decimal(o, n as u64), b"\n")
 }
 
 // 0 where the call was accepted, and else the decline's number.
-pub(crate) fn verdict(v: Verdict) {
+pub(crate) fn verdict(o: Output, v: Verdict) -> Output {
     match v {
-        Verdict::Accepted => last(0),
-        Verdict::Declined(d) => last(d.number),
+        Verdict::Accepted => last(o, 0),
+        Verdict::Declined(d) => last(o, d.number),
     }
 }
 
-fn headings(h: Headings) {
-    field(h.air);
-    field(h.water);
-    field(h.soil);
-    field(h.land);
-    field(h.sewer);
-    field(h.offsite);
+fn headings(o: Output, h: Headings) -> Output {
+    let o = field(o, h.air);
+    let o = field(o, h.water);
+    let o = field(o, h.soil);
+    let o = field(o, h.land);
+    let o = field(o, h.sewer);
+    field(o, h.offsite)
 }
 
-fn amounts(l: Line) {
-    field(l.held);
-    field(l.shipped);
-    field(l.consumed);
-    field(l.destroyed);
+fn amounts(o: Output, l: Line) -> Output {
+    let o = field(o, l.held);
+    let o = field(o, l.shipped);
+    let o = field(o, l.consumed);
+    let o = field(o, l.destroyed);
     let h = l.headings;
-    headings(h);
+    headings(o, h)
 }
 
-fn filing(f: Filing) {
+fn filing(o: Output, f: Filing) -> Output {
     match f {
-        Filing::Figures(h) => headings(h),
-        Filing::NotDue => text(b" - - - - - -"),
+        Filing::Figures(h) => headings(o, h),
+        Filing::NotDue => text(o, b" - - - - - -"),
     }
 }
 
-fn yes_no(due: bool) {
-    if due {
-        text(b" Y");
-    } else {
-        text(b" N");
-    }
+fn yes_no(o: Output, due: bool) -> Output {
+    if due { text(o, b" Y") } else { text(o, b" N") }
 }
 
-fn known(r: Report) {
+fn known(o: Output, r: Report) -> Output {
     let l = r.line;
     let f = r.filed;
-    field(r.posts as u64);
-    field(r.number as u64);
-    field(r.handled);
-    yes_no(r.due);
-    field(r.store);
-    amounts(l);
-    filing(f);
-    text(b"\n");
+    let o = field(o, r.posts as u64);
+    let o = field(o, r.number as u64);
+    let o = field(o, r.handled);
+    let o = yes_no(o, r.due);
+    let o = field(o, r.store);
+    let o = filing(amounts(o, l), f);
+    text(o, b"\n")
 }
 
-pub(crate) fn report(place: u64, answer: Reported) {
-    text(b"report");
-    field(place);
+pub(crate) fn report(o: Output, place: u64, answer: Reported) -> Output {
+    let o = field(text(o, b"report"), place);
     match answer {
-        Reported::Known(r) => known(r),
-        Reported::Declined(d) => {
-            text(b" ");
-            last(d.number);
-        }
+        Reported::Known(r) => known(o, r),
+        Reported::Declined(d) => last(text(o, b" "), d.number),
     }
 }

@@ -1,74 +1,22 @@
-// The records: a tag byte, a length in 16 bits, and that many bytes. `P` is a post, `B` a block, `R` a report.
-ghost use Prim.Native.Nat.{_<_};
-ghost use Rattle.book.specs.Site.{Sound};
-use crate::line;
-use book::answer::Answered;
-use book::posting;
-use book::report;
-use book::site;
-use book::site::Book;
-use journal::block;
-use libc::STDIN_FILENO;
+// The records: a tag byte, a length in 16 bits, and that many bytes.
+ghost use Prim.Native.Nat.{_≤_, _<_};
+ghost use lib.ListN.{length};
+ghost use Rattle.replay.specs.Record.{Follows};
+use streams::input;
+use streams::input::Input;
+use streams::input::Part;
 
-// The book after a record, and whether another may follow.
-struct State {
-    book: Book,
-    is_open: bool,
+// A whole record has its tag, and how many bytes stand in the space that was lent.
+pub(crate) enum Record {
+    Whole(u8, usize),
+    Malformed,
+    End,
+    Failed,
 }
 
-fn malformed(b: Book) -> State
-    requires { ⌜ Sound b ⌝ }
-    ensures { λ r. ⌜ Sound (r .book) ⌝ }
-{
-    line::text(b"malformed\n");
-    State {
-        book: b,
-        is_open: false,
-    }
-}
-
-fn told(name: &[u8], a: Answered) -> State
-    requires { ⌜ Sound (a .book) ⌝ }
-    ensures { λ r. ⌜ Sound (r .book) ⌝ }
-{
-    let book = a.book;
-    let verdict = a.verdict;
-    line::text(name);
-    line::verdict(verdict);
-    State {
-        book,
-        is_open: true,
-    }
-}
-
-fn reported(b: Book, place: u8) -> State
-    requires { ⌜ Sound b ⌝ }
-    ensures { λ r. ⌜ Sound (r .book) ⌝ }
-{
-    line::report(place as u64, report::report_of(b, place as usize));
-    State {
-        book: b,
-        is_open: true,
-    }
-}
-
-fn call(b: Book, tag: u8, s: &[u8]) -> State
-    requires { ⌜ Sound b ⌝ }
-    ensures { λ r. ⌜ Sound (r .book) ⌝ }
-{
-    if tag == b'P' {
-        return told(b"post ", posting::take_post(b, s));
-    }
-    if tag == b'B' {
-        return told(b"block ", block::take_block(b, s));
-    }
-    if tag != b'R' {
-        return malformed(b);
-    }
-    if s.len() != 1 {
-        return malformed(b);
-    }
-    reported(b, s[0])
+pub(crate) struct Found {
+    pub(crate) record: Record,
+    pub(crate) input: Input,
 }
 
 fn length_of(low: u8, high: u8) -> usize
@@ -78,50 +26,43 @@ fn length_of(low: u8, high: u8) -> usize
 }
 
 // What follows a record's tag and length.
-fn body(b: Book, tag: u8, size: usize) -> State
-    requires { ⌜ Sound b ⌝ }
-    requires { ⌜ size < 65536 ⌝ }
-    ensures { λ r. ⌜ Sound (r .book) ⌝ }
+fn body(from: Input, tag: u8, size: usize, space: &mut [u8]) -> Found
+    requires { ⌜ size ≤ length (now space) ⌝ }
+    ensures { λ r. ⌜ Follows from (now (space .entry)) (now (space .exit)) r ⌝ }
 {
-    let mut space = io::large_buffer();
-    let part: &mut [u8] = &mut space[..size];
-    let n = io::read_full(STDIN_FILENO, part);
-    if n < size {
-        return malformed(b);
-    }
-    call(b, tag, part)
+    let taken = input::read_part(from, &mut space[..size]);
+    let input = taken.input;
+    let part = taken.part;
+    let record = match part {
+        Part::Full => Record::Whole(tag, size),
+        Part::Short(_) => Record::Malformed,
+        Part::End => Record::Malformed,
+        Part::Failed => Record::Failed,
+    };
+    Found { record, input }
 }
 
-fn next(b: Book) -> State
-    requires { ⌜ Sound b ⌝ }
-    ensures { λ r. ⌜ Sound (r .book) ⌝ }
+pub(crate) fn next(from: Input, space: &mut [u8]) -> Found
+    requires { ⌜ 65536 ≤ length (now space) ⌝ }
+    ensures { λ r. ⌜ Follows from (now (space .entry)) (now (space .exit)) r ⌝ }
 {
     let mut head = [0u8; 3];
-    let n = io::read_full(STDIN_FILENO, &mut head);
-    if n == 0 {
-        return State {
-            book: b,
-            is_open: false,
-        };
-    }
-    if n < 3 {
-        return malformed(b);
-    }
-    body(b, head[0], length_of(head[1], head[2]))
-}
-
-// A proved loop has to end, and nothing says that the input does: so many records no input has.
-const RECORDS: u64 = 1_000_000_000;
-
-pub(crate) fn replay_all() {
-    let mut b = site::fresh();
-    let mut left = RECORDS;
-    while left > 0 {
-        let state = next(b);
-        if !state.is_open {
-            return;
-        }
-        b = state.book;
-        left -= 1;
+    let taken = input::read_part(from, &mut head);
+    let input = taken.input;
+    let part = taken.part;
+    match part {
+        Part::Full => body(input, head[0], length_of(head[1], head[2]), space),
+        Part::Short(_) => Found {
+            record: Record::Malformed,
+            input,
+        },
+        Part::End => Found {
+            record: Record::End,
+            input,
+        },
+        Part::Failed => Found {
+            record: Record::Failed,
+            input,
+        },
     }
 }

@@ -3,6 +3,7 @@
 //! `PRTR_SEED` sets the seed and `PRTR_CASES` multiplies the number of cases.
 
 pub mod aim;
+pub mod c;
 pub mod calls;
 pub mod case;
 pub mod damage;

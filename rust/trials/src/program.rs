@@ -13,8 +13,24 @@ pub fn path(name: &str) -> PathBuf {
     named.map_or(usual.join(name), PathBuf::from)
 }
 
+/// A program's file, which must be there.
+pub fn built(name: &str) -> PathBuf {
+    let program = path(name);
+    assert!(
+        program.is_file(),
+        "there is no program {}; `rt check {name}` builds it",
+        program.display()
+    );
+    program
+}
+
 /// What a program prints for an input, which it may leave half read.
 pub fn output(program: &Path, input: &[u8]) -> io::Result<Output> {
+    fed(program, input, usize::MAX)
+}
+
+/// The same, where the input comes through the pipe in parts of so many bytes.
+pub fn fed(program: &Path, input: &[u8], size: usize) -> io::Result<Output> {
     let mut command = Command::new(program);
     let mut child = command
         .stdin(Stdio::piped())
@@ -23,7 +39,22 @@ pub fn output(program: &Path, input: &[u8]) -> io::Result<Output> {
         .spawn()?;
     let mut stdin = child.stdin.take().expect("a pipe was asked for");
     thread::scope(|scope| {
-        scope.spawn(move || stdin.write_all(input));
+        scope.spawn(move || {
+            input
+                .chunks(size)
+                .try_for_each(|part| stdin.write_all(part))
+        });
         child.wait_with_output()
     })
+}
+
+/// The text of a program that could read all and write all; panics with what it said else.
+pub fn text(out: Output) -> Vec<u8> {
+    let said = String::from_utf8_lossy(&out.stderr);
+    assert!(
+        out.status.success() && said.is_empty(),
+        "ended with {} and said: {said}",
+        out.status
+    );
+    out.stdout
 }

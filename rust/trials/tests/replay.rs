@@ -23,19 +23,12 @@ const MAKERS: [(u64, Maker); 3] = [(400, mixed), (100, damaged_journal), (12, fu
 
 /// What the program prints for a list's records.
 fn printed(program: &Path, records: &[u8]) -> Vec<u8> {
-    let out = program::output(program, records).expect("the program runs");
-    assert!(out.status.success(), "ended with {}", out.status);
-    out.stdout
+    program::text(program::output(program, records).expect("the program runs"))
 }
 
 #[test]
 fn program_and_model_answer_the_same() {
-    let program = program::path("replay");
-    assert!(
-        program.is_file(),
-        "there is no program {}; `rt check replay` builds it",
-        program.display()
-    );
+    let program = program::built("replay");
     let mut trial = Trial::new("replay");
     let mut counts = Counts::default();
     for (part, (usual, make)) in (1..).zip(MAKERS) {

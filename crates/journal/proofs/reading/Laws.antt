@@ -60,7 +60,7 @@ module _ (r : Reading) (part : List ℕ) where
 -- ---- all parts
 
 -- a block that is taken is one more
-block-next : (b c : Book) (s : List ℕ) → Sound b → blockOn b s ≡ taken c → Sound c × (c .blocks ≡ suc (b .blocks))
+pub block-next : (b c : Book) (s : List ℕ) → Sound b → blockOn b s ≡ taken c → Sound c × (c .blocks ≡ suc (b .blocks))
 block-next b c s h e = go (block-taken b c s e .1)
   where
     go : Kind b s c → Sound c × (c .blocks ≡ suc (b .blocks))

@@ -1,43 +1,95 @@
-use borrow.Author.Needs.{needs}
 use native.Mathlib.Omega.{arith}
-use lib.ListN.{length-take}
+use mathlib.Core.Path.{_≡_, refl}
+use mathlib.Core.List.{List, _++_}
+use Prim.Native.Nat.{ℕ}
+use lib.ListN.{length, drop, length-take}
+use borrow.Author.Needs.{needs}
+use Rattle.replay.specs.declared.record.Record.the-variants.{Malformed, Failed}
+use Rattle.replay.proofs.record.Laws.{as-long, full-falls, no-call}
 use Rattle.replay.proofs.record.body.Statement.{statement}
 use Rattle.replay.proofs.record.body.Tie as tie
 
-large-buffer-requires : tie.Need-large-buffer-requires
-large-buffer-requires c κs = search needs
+-- the space with the part in it, as long as it was
+abbrev after : tie.After-read-part → List ℕ
+after k = let s = k .before .before .before in k .read-part .last .1 .0 ++ drop (s .args .size) (s .args .space .now)
 
-array-borrow-prefix-space : tie.Need-array-borrow-prefix-space
-array-borrow-prefix-space c = search needs
+back : (k : tie.After-read-part) → length (after k) ≡ length (k .before .before .before .args .space .now)
+back k = let s = k .before .before .before in as-long (s .args .space .now) (k .read-part .last .1 .0) (s .args .size) (k .read-part .ensures .same-length)
 
--- the part has the size asked, since the buffer has more
-slice-aggregate-part : tie.Need-slice-aggregate-part
-slice-aggregate-part c = simp length-take (omega arith)
+slice-relend-prefix-read-part : tie.Need-slice-relend-prefix-read-part
+slice-relend-prefix-read-part c = search needs
 
-read-full-requires : tie.Need-read-full-requires
-read-full-requires c κs = search needs
+slice-aggregate-read-part : tie.Need-slice-aggregate-read-part
+slice-aggregate-read-part c = simp length-take (omega arith)
 
-malformed-requires : tie.Need-malformed-requires
-malformed-requires c κs = search needs
+read-part-requires : tie.Need-read-part-requires
+read-part-requires c κs = search needs
+
+enum-told : tie.Need-enum-told
+enum-told c = search needs
+
+enum-told-2 : tie.Need-enum-told-2
+enum-told-2 c = search needs
+
+enum-told-3 : tie.Need-enum-told-3
+enum-told-3 c = search needs
+
+enum-told-4 : tie.Need-enum-told-4
+enum-told-4 c = search needs
+
+same-length : tie.Need-same-length
+same-length c = search needs
 
 returns : tie.Need-returns
-returns c = search needs
+returns c =
+    let k = c .before .before .before .before .before in
+    let s = k .before .before .before in
+    record {
+      same-length = back k;
+      within = s .pre;
+      falls = λ e. full-falls (s .args .from .left) (k .read-part .result .input .left) (k .read-part .result .part) (c .enum-told .given .1) (k .read-part .ensures .falls);
+    }
 
-call-requires : tie.Need-call-requires
-call-requires c κs = search needs
+same-length-2 : tie.Need-same-length-2
+same-length-2 c = search needs
 
 returns-2 : tie.Need-returns-2
-returns-2 c = search needs
+returns-2 c =
+    let k = c .before .before .before .before .before in
+    no-call (k .before .before .before .args .from) _ (after k) (record { «record» = Malformed; input = k .read-part .result .input }) (back k) refl tt
+
+same-length-3 : tie.Need-same-length-3
+same-length-3 c = search needs
+
+returns-3 : tie.Need-returns-3
+returns-3 c =
+    let k = c .before .before .before .before .before in
+    no-call (k .before .before .before .args .from) _ (after k) (record { «record» = Malformed; input = k .read-part .result .input }) (back k) refl tt
+
+same-length-4 : tie.Need-same-length-4
+same-length-4 c = search needs
+
+returns-4 : tie.Need-returns-4
+returns-4 c =
+    let k = c .before .before .before .before .before in
+    no-call (k .before .before .before .args .from) _ (after k) (record { «record» = Failed; input = k .read-part .result .input }) (back k) refl tt
 
 pub body-spec : {M : Type 1} → statement M
 body-spec =
     tie.close
     (tie.spec
-    large-buffer-requires
-    array-borrow-prefix-space
-    slice-aggregate-part
-    read-full-requires
-    malformed-requires
+    slice-relend-prefix-read-part
+    slice-aggregate-read-part
+    read-part-requires
+    enum-told
+    enum-told-2
+    enum-told-3
+    enum-told-4
+    same-length
     returns
-    call-requires
-    returns-2)
+    same-length-2
+    returns-2
+    same-length-3
+    returns-3
+    same-length-4
+    returns-4)

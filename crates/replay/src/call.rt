@@ -1,0 +1,111 @@
+// What a record asks: `P` is a post, `B` a block, `R` a report. A line tells what it answered.
+ghost use mathlib.Core.Bool.{true, false};
+ghost use mathlib.Core.Path.{_≡_};
+ghost use lib.ListN.{length};
+ghost use Rattle.book.specs.Site.{Sound};
+ghost use Rattle.replay.specs.Record.{Within, isWhole};
+use crate::line;
+use crate::record::Record;
+use book::answer::Answered;
+use book::posting;
+use book::report;
+use book::site::Book;
+use journal::block;
+use streams::output;
+use streams::output::Output;
+use streams::trouble;
+
+// The book after a record, and whether another may follow.
+pub(crate) struct Turn {
+    pub(crate) book: Book,
+    pub(crate) output: Output,
+    pub(crate) is_open: bool,
+}
+
+fn closed(b: Book, o: Output) -> Turn
+    requires { ⌜ Sound b ⌝ }
+    ensures { λ r. ⌜ Sound (r .book) ⌝ }
+    ensures { λ r. ⌜ r .is_open ≡ false ⌝ }
+{
+    Turn {
+        book: b,
+        output: o,
+        is_open: false,
+    }
+}
+
+// Another record may follow where the line was written.
+fn told(b: Book, o: Output) -> Turn
+    requires { ⌜ Sound b ⌝ }
+    ensures { λ r. ⌜ Sound (r .book) ⌝ }
+{
+    Turn {
+        book: b,
+        output: o,
+        is_open: !output::has_failed(o),
+    }
+}
+
+fn malformed(b: Book, o: Output) -> Turn
+    requires { ⌜ Sound b ⌝ }
+    ensures { λ r. ⌜ Sound (r .book) ⌝ }
+    ensures { λ r. ⌜ r .is_open ≡ false ⌝ }
+{
+    closed(b, output::text(o, b"malformed\n"))
+}
+
+fn answered(o: Output, name: &[u8], a: Answered) -> Turn
+    requires { ⌜ Sound (a .book) ⌝ }
+    ensures { λ r. ⌜ Sound (r .book) ⌝ }
+{
+    let book = a.book;
+    let verdict = a.verdict;
+    told(book, line::verdict(output::text(o, name), verdict))
+}
+
+fn reported(b: Book, o: Output, place: u8) -> Turn
+    requires { ⌜ Sound b ⌝ }
+    ensures { λ r. ⌜ Sound (r .book) ⌝ }
+{
+    told(
+        b,
+        line::report(o, place as u64, report::report_of(b, place as usize)),
+    )
+}
+
+fn call(b: Book, o: Output, tag: u8, s: &[u8]) -> Turn
+    requires { ⌜ Sound b ⌝ }
+    ensures { λ r. ⌜ Sound (r .book) ⌝ }
+{
+    if tag == b'P' {
+        return answered(o, b"post ", posting::take_post(b, s));
+    }
+    if tag == b'B' {
+        return answered(o, b"block ", block::take_block(b, s));
+    }
+    if tag != b'R' {
+        return malformed(b, o);
+    }
+    if s.len() != 1 {
+        return malformed(b, o);
+    }
+    reported(b, o, s[0])
+}
+
+// What a record that was read answers; a whole one stands in the space.
+pub(crate) fn answer(b: Book, o: Output, r: Record, space: &[u8]) -> Turn
+    requires { ⌜ Sound b ⌝ }
+    requires { ⌜ Within (length (now space)) r ⌝ }
+    ensures { λ t. ⌜ Sound (t .book) ⌝ }
+    ensures { λ t. ⌜ (t .is_open ≡ true → isWhole r ≡ true) ⌝ }
+{
+    match r {
+        Record::Whole(tag, size) => call(b, o, tag, &space[..size]),
+        Record::Malformed => malformed(b, o),
+        Record::End => closed(b, o),
+        Record::Failed => {
+            trouble::unread(b"replay");
+            closed(b, o)
+        }
+    }
+}
