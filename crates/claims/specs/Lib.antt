@@ -1,0 +1,3 @@
+pub mod Standing
+pub mod Demand
+pub mod Weighing
