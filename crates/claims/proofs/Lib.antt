@@ -6,3 +6,4 @@ pub mod Tells
 pub mod Report
 pub mod Demand
 pub mod Weighing
+pub mod Singles

@@ -1,3 +1,4 @@
 pub mod Standing
 pub mod Demand
 pub mod Weighing
+pub mod Singles
