@@ -7,3 +7,4 @@ pub mod Stage
 pub mod Posts
 pub mod Block
 pub mod Steps
+pub mod Whole

@@ -7,3 +7,4 @@ pub mod posts;
 pub mod setup;
 pub mod site;
 pub mod stage;
+pub mod whole;

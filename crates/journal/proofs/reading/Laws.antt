@@ -1,42 +1,27 @@
 -- A journal that is fed part by part prints what its bytes say. Assumes nothing.
 use mathlib.Core.Path.{_≡_, refl, sym, ap, subst, _∙_}
-use mathlib.Core.Bool.{true, false}
-use mathlib.Core.List.{List, [], _∷_, _++_}
-use Prim.Native.Nat.{ℕ, suc, _+_, _*_, _≤_, _<_}
+use mathlib.Core.List.{List, [], _∷_}
+use Prim.Native.Nat.{ℕ, suc}
 use native.Mathlib.Numerals.{add-one}
-use native.Mathlib.Omega.{arith}
-use borrow.Author.Tests.{ltb-true, ltb-false, le-leb, lt-leb}
-use lib.Dec.{ltb}
-use lib.ListN.{length, length-append}
-use Rattle.amounts.specs.Decline.{Answer, taken, declined, unknown}
+use Rattle.amounts.specs.Decline.{Answer, taken, declined}
 use Rattle.amounts.specs.declared.decline.Decline.{Decline}
-use Rattle.amounts.proofs.decline.Laws.{one-taken, one-declined}
 use Rattle.layout.specs.declared.verdict.Verdict.the-variants.{Accepted, Declined}
-use Rattle.book.specs.Report as reporting
-use Rattle.book.specs.Report.{reportAt, reportOf}
-use Rattle.book.specs.declared.report.Report.{Report}
-use Rattle.book.specs.declared.report.Reported as reports
-use Rattle.book.specs.declared.report.Reported.the-variants.{Known, Declined as Refused}
 use Rattle.book.specs.Answer.{outcome}
-use Rattle.book.specs.Site.{freshBook, Sound}
+use Rattle.book.specs.Block.{blockOn}
+use Rattle.book.specs.Site.{freshBook}
+use Rattle.book.specs.Whole.{partsIn, onward, readAll}
 use Rattle.book.specs.declared.answer.Answered.{Answered}
 use Rattle.book.specs.declared.site.Book.{Book}
 use Rattle.book.proofs.answer.Laws.{was-accepted, was-declined}
-use Rattle.book.proofs.posts.Laws.{posts-taken, posts-sound}
-use Rattle.book.proofs.setup.Taken.{set-up-taken}
-use Rattle.book.proofs.stage.Taken.{described-taken}
-use Rattle.book.proofs.site.Laws.{sound-fresh}
-use Rattle.journal.specs.Block.{countOf, bodyOf, blockOn}
-use Rattle.journal.specs.Demand.{block}
-use Rattle.journal.specs.Reading.{partsIn, onward, readAll, linesTo, returnText, outcomeText, printedOf, started, afterBlock, fedWhile, fed, fedAll, textWhile, textOf}
-use Rattle.journal.specs.Text.{title, lineText, refusedText}
-use Rattle.journal.specs.Writing.{Room, Puts, Tries}
-use Rattle.journal.specs.declared.text.Written.the-variants.{At, NoRoom}
+use Rattle.book.proofs.block.Laws.{block-more}
+use Rattle.text.specs.Line.{refusedText}
+use Rattle.text.specs.Print.{returnText}
+use Rattle.text.specs.Writing.{Tries}
+use Rattle.text.specs.declared.writing.Written.{Written}
+use Rattle.journal.specs.Reading.{outcomeText, printedOf, started, afterBlock, fedWhile, fed, fedAll, textWhile, textOf}
 use Rattle.journal.specs.declared.reading.Reading.{Reading}
 use Rattle.journal.specs.declared.reading.Stopped.{Stopped}
 use Rattle.journal.specs.declared.reading.Stopped.the-variants.{No, By}
-use Rattle.journal.proofs.text.Laws.{written-none, room-then, puts-then, puts-length, puts-as, decimal-short, refused-is, tries-none, tries-at}
-use Rattle.journal.proofs.Balance.{Kind, sets, describes, posts, block-taken}
 
 -- ---- one part
 
@@ -59,32 +44,35 @@ module _ (r : Reading) (part : List ℕ) where
 
 -- ---- all parts
 
--- a block that is taken is one more
-pub block-next : (b c : Book) (s : List ℕ) → Sound b → blockOn b s ≡ taken c → Sound c × (c .blocks ≡ suc (b .blocks))
-block-next b c s h e = go (block-taken b c s e .1)
-  where
-    go : Kind b s c → Sound c × (c .blocks ≡ suc (b .blocks))
-    go (sets k f) = let z = set-up-taken b c (countOf s) (bodyOf s) h f in (z .2, ap (λ (x : Book). x .blocks) (z .0) ∙ add-one (b .blocks))
-    go (describes k f) = let z = described-taken b c (countOf s) (bodyOf s) h f in (z .2, ap (λ (x : Book). x .blocks) (z .0) ∙ add-one (b .blocks))
-    go (posts k f) = let z = posts-taken b c (countOf s) (bodyOf s) f in (posts-sound b c (countOf s) (bodyOf s) h f, ap (λ (x : Book). x .blocks) (z .2) ∙ add-one (b .blocks))
-
 -- after a decline nothing changes
 pub stays-all : (b : Book) (d : Decline) (parts : List (List ℕ)) → fedAll (record { book = b; stopped = By d }) parts ≡ record { book = b; stopped = By d }
 unfolding fedAll
 stays-all b d [] = refl
 stays-all b d (part ∷ parts) = stays-all b d parts
 
-pub fed-text : (b : Book) (parts : List (List ℕ)) → Sound b → textOf (fedAll (record { book = b; stopped = No }) parts) ≡ outcomeText (readAll b (b .blocks) parts)
+pub fed-text : (b : Book) (parts : List (List ℕ)) → textOf (fedAll (record { book = b; stopped = No }) parts) ≡ outcomeText (readAll b (b .blocks) parts)
 unfolding fedAll readAll
-fed-text b [] h = refl
-fed-text b (part ∷ parts) h = go (blockOn b part) refl (λ c. fed-text c parts)
+fed-text b [] = refl
+fed-text b (part ∷ parts) = go (blockOn b part) refl (λ c. fed-text c parts)
   where
-    go : (a : Answer Book) → blockOn b part ≡ a → ((c : Book) → Sound c → textOf (fedAll (record { book = c; stopped = No }) parts) ≡ outcomeText (readAll c (c .blocks) parts))
+    go : (a : Answer Book) → blockOn b part ≡ a → ((c : Book) → textOf (fedAll (record { book = c; stopped = No }) parts) ≡ outcomeText (readAll c (c .blocks) parts))
         → textOf (fedAll (afterBlock b a) parts) ≡ outcomeText (onward a (b .blocks) (λ c. readAll c (suc (b .blocks)) parts))
-    go (taken c) e rest = let n = block-next b c part h e in rest c (n .0) ∙ ap (λ (k : ℕ). outcomeText (readAll c k parts)) (n .1)
+    go (taken c) e rest = rest c ∙ ap (λ (k : ℕ). outcomeText (readAll c k parts)) (block-more b c part e ∙ add-one (b .blocks))
     go (declined n) e rest = ap textOf (stays-all b (record { number = n }) parts)
 
 -- a journal fed part by part prints what its bytes say
 pub filing-is : (s : List ℕ) → textOf (fedAll started (partsIn s)) ≡ printedOf s
-filing-is s = fed-text freshBook (partsIn s) sound-fresh
+filing-is s = fed-text freshBook (partsIn s)
 
+-- ---- printing
+
+module _ (l m : List ℕ) (w : Written) where
+  tries-as : (a b : List ℕ) → a ≡ b → Tries 1336 l 0 a m w → Tries 1336 l 0 b m w
+  tries-as a b e t = subst (λ (x : List ℕ). Tries 1336 l 0 x m w) e t
+
+  module _ (r : Reading) where
+    pub prints-return : r .stopped ≡ No → Tries 1336 l 0 (returnText (r .book)) m w → Tries 1336 l 0 (textOf r) m w
+    prints-return e t = tries-as _ _ (sym (ap (λ (x : Stopped). textWhile x (r .book)) e)) t
+
+    pub prints-refused : (d : Decline) (place : ℕ) → r .stopped ≡ By d → place ≡ r .book .blocks → Tries 1336 l 0 (refusedText place (d .number)) m w → Tries 1336 l 0 (textOf r) m w
+    prints-refused d place e k t = tries-as _ _ (ap (λ (x : ℕ). refusedText x (d .number)) k ∙ sym (ap (λ (x : Stopped). textWhile x (r .book)) e)) t
