@@ -6,5 +6,5 @@ pub mod Setup
 pub mod Stage
 pub mod Posts
 pub mod Block
-pub mod Steps
 pub mod Whole
+pub mod Steps

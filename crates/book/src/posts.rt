@@ -116,6 +116,41 @@ pub(crate) fn run(
     }
 }
 
+// The posts of a kind 3 block's body, where its own bytes pass.
+pub(crate) fn run_body(
+    setup: Setup,
+    store: &mut [u64; 12],
+    sums: &mut [u64; 576],
+    handled: &mut [u64; 8],
+    posts: u32,
+    closed: bool,
+    count: u8,
+    body: &[u8],
+) -> RunEnd
+    requires { ⌜ SoundSetup setup ⌝ }
+    requires { ⌜ SoundYear setup (yearWith (now store) (now sums) (now handled) posts closed) ⌝ }
+    ensures { λ r. ⌜ Ran (postsOn setup (yearWith (now (store .entry)) (now (sums .entry)) (now (handled .entry)) posts closed) count (now (body .entry))) (r .verdict) (yearWith (now (store .exit)) (now (sums .exit)) (now (handled .exit)) (r .posts) (r .closed)) ⌝ }
+{
+    if let Verdict::Declined(d) = layout::posts::check_posts(setup.outline, closed, count, body) {
+        return RunEnd {
+            verdict: Verdict::Declined(d),
+            posts,
+            closed,
+        };
+    }
+    run(
+        setup,
+        store,
+        sums,
+        handled,
+        posts,
+        closed,
+        body,
+        POST_SIZE,
+        count as usize,
+    )
+}
+
 // The book with the year that a run left, or the book given in.
 fn after(
     b: Book,
@@ -161,7 +196,17 @@ pub fn take_post(b: Book, s: &[u8]) -> Answered
     let mut store = y.store;
     let mut sums = y.sums;
     let mut handled = y.handled;
-    let end = run(setup, &mut store, &mut sums, &mut handled, y.posts, y.closed, s, s.len(), 1);
+    let end = run(
+        setup,
+        &mut store,
+        &mut sums,
+        &mut handled,
+        y.posts,
+        y.closed,
+        s,
+        s.len(),
+        1,
+    );
     after(b, store, sums, handled, end, b.blocks)
 }
 
@@ -173,13 +218,18 @@ pub(crate) fn take_posts(b: Book, count: u8, body: &[u8]) -> Answered
 {
     let setup = b.setup;
     let y = b.year;
-    if let Verdict::Declined(d) = layout::posts::check_posts(setup.outline, y.closed, count, body) {
-        return answer::declined(b, d);
-    }
     let mut store = y.store;
     let mut sums = y.sums;
     let mut handled = y.handled;
-    let n = count as usize;
-    let end = run(setup, &mut store, &mut sums, &mut handled, y.posts, y.closed, body, POST_SIZE, n);
+    let end = run_body(
+        setup,
+        &mut store,
+        &mut sums,
+        &mut handled,
+        y.posts,
+        y.closed,
+        count,
+        body,
+    );
     after(b, store, sums, handled, end, b.blocks + 1)
 }

@@ -18,10 +18,7 @@ pub(crate) fn set_up(u: Setup, count: u8, body: &[u8]) -> SetupEnd
     let o = u.outline;
     let verdict = layout::setup::check_setup(o, count, body);
     if let Verdict::Declined(_) = verdict {
-        return SetupEnd {
-            verdict,
-            setup: u,
-        };
+        return SetupEnd { verdict, setup: u };
     }
     SetupEnd {
         verdict: Verdict::Accepted,

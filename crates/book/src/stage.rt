@@ -33,10 +33,7 @@ pub(crate) fn describe(u: Setup, stage: u8, body: &[u8]) -> SetupEnd
     let o = u.outline;
     let verdict = layout::stage::check_stage(o, stage, body);
     if let Verdict::Declined(_) = verdict {
-        return SetupEnd {
-            verdict,
-            setup: u,
-        };
+        return SetupEnd { verdict, setup: u };
     }
     let k = stage as usize;
     let mut next = pairs_into(u, k * 8, &body[2..], o.substances as usize);

@@ -1,5 +1,16 @@
 // A whole journal on a fresh book, whose lists are lent to each block in turn, so that no block copies the book.
+ghost use mathlib.Core.Path.{_≡_};
+ghost use Prim.Native.Nat.{_+_, _≤_, min};
+ghost use Rattle.book.specs.Site.{freshBook, bookWith, Sound};
+ghost use Rattle.book.specs.Whole.{partsIn, readAll, read, refused, ended};
+use crate::block::set_up_by;
+use crate::posts::run_body;
+use crate::site;
 use crate::site::Book;
+use crate::site::Year;
+use amounts::decline::Decline;
+use layout::frame;
+use layout::setup::Setup;
 use layout::verdict::Verdict;
 
 // Accepted, with as many blocks as the journal has and the book after the last; or why a block was declined, with its place from 0 and a
@@ -8,4 +19,102 @@ pub struct WholeRead {
     pub verdict: Verdict,
     pub place: u32,
     pub book: Book,
+}
+
+// Where the part from a place on ends: 512 bytes on, or at the end of the journal.
+fn part_end(at: usize, length: usize) -> usize
+    requires { ⌜ at ≤ length ⌝ }
+    ensures { λ r. ⌜ r ≡ min (at + 512) length ⌝ }
+{
+    if length - at < 512 {
+        return length;
+    }
+    at + 512
+}
+
+fn refused_at(place: u32, decline: Decline) -> WholeRead
+    ensures { λ r. ⌜ r ≡ ended (refused place (decline .number)) ⌝ }
+    ensures { λ r. ⌜ Sound (r .book) ⌝ }
+{
+    WholeRead {
+        verdict: Verdict::Declined(decline),
+        place,
+        book: site::fresh(),
+    }
+}
+
+fn read_to(setup: Setup, year: Year, blocks: u32) -> WholeRead
+    ensures { λ r. ⌜ r ≡ ended (read (bookWith setup year blocks)) ⌝ }
+{
+    WholeRead {
+        verdict: Verdict::Accepted,
+        place: blocks,
+        book: Book {
+            setup,
+            year,
+            blocks,
+        },
+    }
+}
+
+// The blocks of a journal in turn, up to the first that is declined.
+pub fn take_whole(journal: &[u8]) -> WholeRead
+    ensures { λ r. ⌜ r ≡ ended (readAll freshBook 0 (partsIn (now (journal .entry)))) ⌝ }
+    ensures { λ r. ⌜ Sound (r .book) ⌝ }
+{
+    let mut setup = site::fresh_setup();
+    let mut store = [0u64; 12];
+    let mut sums = [0u64; 576];
+    let mut handled = [0u64; 8];
+    let mut posts: u32 = 0;
+    let mut closed = false;
+    let mut blocks: u32 = 0;
+    let mut at: usize = 0;
+    while at < journal.len() {
+        let end = part_end(at, journal.len());
+        let part = &journal[at..end];
+        if let Verdict::Declined(d) = frame::check_frame(blocks, part) {
+            return refused_at(blocks, d);
+        }
+        let kind = part[4];
+        let count = part[5];
+        let body = &part[8..508];
+        if kind == 3 {
+            let r = run_body(
+                setup,
+                &mut store,
+                &mut sums,
+                &mut handled,
+                posts,
+                closed,
+                count,
+                body,
+            );
+            let v = r.verdict;
+            if let Verdict::Declined(d) = v {
+                return refused_at(blocks, d);
+            }
+            posts = r.posts;
+            closed = r.closed;
+            blocks += 1;
+            at = end;
+        } else {
+            let r = set_up_by(setup, kind, count, body);
+            let v = r.verdict;
+            if let Verdict::Declined(d) = v {
+                return refused_at(blocks, d);
+            }
+            setup = r.setup;
+            blocks += 1;
+            at = end;
+        }
+    }
+    let year = Year {
+        store,
+        sums,
+        handled,
+        posts,
+        closed,
+    };
+    read_to(setup, year, blocks)
 }

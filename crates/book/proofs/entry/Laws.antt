@@ -46,8 +46,10 @@ module _ (counted store sums handled : List ℕ) where
   room-issued m stage g r =
       let f = r .fits in (
         (f .0, f .1 .0),
-        (λ s hs. omega (arith, cell-few held stage s r (omega arith) (f .1 .0) hs, brings-small counted m g s (r .counted-small) (f .1 .1)),
-        λ s hs. omega (arith, r .handled-few s hs, brings-small counted m g s (r .counted-small) (f .1 .1))),
+        (
+          λ s hs. omega (arith, cell-few held stage s r (omega arith) (f .1 .0) hs, brings-small counted m g s (r .counted-small) (f .1 .1)),
+          λ s hs. omega (arith, r .handled-few s hs, brings-small counted m g s (r .counted-small) (f .1 .1)),
+        ),
       )
 
   pub room-brought : (a stage s n : ℕ) → Has (Brought a stage s n) → (cell sums a stage s + n < 2 ^ 64) × (getD handled s 0 + n < 2 ^ 64)

@@ -11,6 +11,7 @@ use borrow.Author.Tests.{not-true}
 use lib.ListN.{length, take, drop}
 use lib.Seq.{take-length}
 use Rattle.amounts.specs.Decline.{Answer, taken, declined, check, checked, onTaken, short, full}
+use Rattle.amounts.specs.declared.decline.Decline.{Decline}
 use Rattle.amounts.proofs.decline.Laws.{was-taken}
 use Rattle.layout.specs.Outline.{mayPost}
 use Rattle.layout.specs.Posts.{partOf, postIn, ownChecks}
@@ -244,6 +245,18 @@ ran-declined a n y e = record { told = sym (ap verdictOf e); left = λ z f. let 
 
 pub ran-taken : (a : Answer Year) (y : Year) → a ≡ taken y → Ran a Accepted y
 ran-taken a y e = record { told = sym (ap verdictOf e); left = λ z f. cc }
+
+pub ran-same : {a b : Answer Year} (v : Verdict) (y : Year) → a ≡ b → Ran a v y → Ran b v y
+ran-same v y e r = subst (λ (x : Answer Year). Ran x v y) e r
+
+-- and what its verdict tells
+pub ran-was-declined : (a : Answer Year) (v : Verdict) (d : Decline) (y : Year) → Ran a v y → v ≡ Declined d → a ≡ declined (d .number)
+ran-was-declined (taken z) v d y r e = let f = r .told in let q : _≡_ {A = ℕ} 0 1 = cc in absurd (omega arith)
+ran-was-declined (declined n) v d y r e = let f = r .told in cc
+
+pub ran-was-taken : (a : Answer Year) (v : Verdict) (y : Year) → Ran a v y → v ≡ Accepted → a ≡ taken y
+ran-was-taken (taken z) v y r e = ap taken (sym (r .left z refl))
+ran-was-taken (declined n) v y r e = let f = r .told in let q : _≡_ {A = ℕ} 0 1 = cc in absurd (omega arith)
 
 -- the book with what a run left
 pub ran-book : (a : Answer Year) (v : Verdict) (y : Year) (u : Setup) (n : ℕ) → Ran a v y → guarded v (bookWith u y n) ≡ onTaken a (λ z. taken (bookWith u z n))

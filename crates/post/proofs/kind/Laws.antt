@@ -91,20 +91,43 @@ AllWell o (r ∷ rs) = Well o (r .does) (r .measure) (r .limits o) × AllWell o 
 
 all-well : (o : Outline) → AllWell o rows
 unfolding rows
-all-well o =
-    ((refl, refl),
-    ((refl, refl),
-    ((refl, (refl, refl)),
-    ((omega arith, (refl, (refl, refl))),
-    ((omega arith, (refl, (refl, (refl, refl)))),
-    ((omega arith, (refl, (refl, (refl, refl)))),
-    ((omega arith, (refl, (refl, (refl, refl)))),
-    ((omega arith, (refl, (refl, (refl, refl)))),
-    ((omega arith, (refl, (refl, (refl, refl)))),
-    ((omega arith, (refl, (refl, (refl, refl)))),
-    ((omega arith, (refl, (refl, (refl, refl)))),
-    ((omega arith, (refl, (refl, tt))),
-    (refl, tt)))))))))))))
+all-well o = (
+  (refl, refl),
+  (
+    (refl, refl),
+    (
+      (refl, (refl, refl)),
+      (
+        (omega arith, (refl, (refl, refl))),
+        (
+          (omega arith, (refl, (refl, (refl, refl)))),
+          (
+            (omega arith, (refl, (refl, (refl, refl)))),
+            (
+              (omega arith, (refl, (refl, (refl, refl)))),
+              (
+                (omega arith, (refl, (refl, (refl, refl)))),
+                (
+                  (omega arith, (refl, (refl, (refl, refl)))),
+                  (
+                    (omega arith, (refl, (refl, (refl, refl)))),
+                    (
+                      (omega arith, (refl, (refl, (refl, refl)))),
+                      (
+                        (omega arith, (refl, (refl, tt))),
+                        (refl, tt),
+                      ),
+                    ),
+                  ),
+                ),
+              ),
+            ),
+          ),
+        ),
+      ),
+    ),
+  ),
+)
 
 pub well : (o : Outline) (n : ℕ) (r : Row) → kindOf n ≡ taken r → Well o (r .does) (r .measure) (r .limits o)
 unfolding kindOf find

@@ -56,7 +56,7 @@ element-copy-out-if1 : tie.Need-element-copy-out-if1
 element-copy-out-if1 c = let h = issued c .fits in omega arith
 
 returns : tie.Need-returns
-returns c =     left-out _ _ _ _ _ _ _ _ _ _ (c .before .before .before .m2 .given .1) (lt-leb _ _ (c .if1 .taken))
+returns c = left-out _ _ _ _ _ _ _ _ _ _ (c .before .before .before .m2 .given .1) (lt-leb _ _ (c .if1 .taken))
 
 mul-store-3 : tie.Need-mul-store-3
 mul-store-3 c = let h = issued (c .before .before) .fits in omega arith
@@ -143,7 +143,7 @@ element-copy-out-if2 : tie.Need-element-copy-out-if2
 element-copy-out-if2 c = let h = gone c .fits in omega arith
 
 returns-2 : tie.Need-returns-2
-returns-2 c =     left-out _ _ _ _ _ _ _ _ _ _ (c .before .before .before .m4 .given .1) (lt-leb _ _ (c .if2 .taken))
+returns-2 c = left-out _ _ _ _ _ _ _ _ _ _ (c .before .before .before .m4 .given .1) (lt-leb _ _ (c .if2 .taken))
 
 mul-shift : tie.Need-mul-shift
 mul-shift c = let h = gone (c .before .before .before) .fits in omega arith
@@ -168,7 +168,7 @@ settle-requires c κs =
     room-close _ _ _ _ (subst (Has s) (c .before .enum-told .given .1) (s .pre))
 
 returns-3 : tie.Need-returns-3
-returns-3 c =     put-in _ _ _ _ _ _ _ _ _ _ (c .before .before .m .given .1) refl refl refl refl
+returns-3 c = put-in _ _ _ _ _ _ _ _ _ _ (c .before .before .m .given .1) refl refl refl refl
 
 returns-4 : tie.Need-returns-4
 returns-4 c =
@@ -176,7 +176,7 @@ returns-4 c =
     put-in _ _ _ _ _ _ _ _ _ _ (k .before .before .before .m2 .given .1) (le-leb _ _ (k .if1 .left)) refl (c .issue .ensures .0) (c .issue .ensures .1)
 
 returns-5 : tie.Need-returns-5
-returns-5 c =     put-in _ _ _ _ _ _ _ _ _ _ (c .before .before .before .m3 .given .1) refl refl refl refl
+returns-5 c = put-in _ _ _ _ _ _ _ _ _ _ (c .before .before .before .m3 .given .1) refl refl refl refl
 
 returns-6 : tie.Need-returns-6
 returns-6 c =
@@ -184,7 +184,7 @@ returns-6 c =
     put-in _ _ _ _ _ _ _ _ _ _ (k .before .before .before .m4 .given .1) (le-leb _ _ (k .if2 .left)) refl (c .shift .ensures) refl
 
 returns-7 : tie.Need-returns-7
-returns-7 c =     put-in _ _ _ _ _ _ _ _ _ _ (c .before .before .enum-told .given .1) refl refl (c .settle .ensures) refl
+returns-7 c = put-in _ _ _ _ _ _ _ _ _ _ (c .before .before .enum-told .given .1) refl refl (c .settle .ensures) refl
 
 pub enter-spec : {M : Type 1} → statement M
 enter-spec =

@@ -52,7 +52,7 @@ shift-requires c κs =
     let pre = l .before .pre in (
       (omega arith, omega (arith, small t), omega arith),
       settled-room (l .before .args .sums .now) (l .before .args .sides .now) (l .loop .pair) (l .loop .sums) (t .closes-to .result) 18446744073709551616 (l .loop .inv .1)
-      (omega arith) (small t) (pre .1) (pre .0),
+          (omega arith) (small t) (pre .1) (pre .0),
     )
 
 add-pair : tie.Need-add-pair Inv-loop μ-loop
@@ -67,7 +67,7 @@ loop-again c =
     let l = t .before .before .before in (
       search needs,
       c .shift .ensures
-      ∙ settled-more (l .before .args .sums .now) (l .before .args .sides .now) (l .loop .pair) (l .loop .sums) (t .closes-to .result) (l .loop .inv .1) (t .closes-to .ensures),
+          ∙ settled-more (l .before .args .sums .now) (l .before .args .sides .now) (l .loop .pair) (l .loop .sums) (t .closes-to .result) (l .loop .inv .1) (t .closes-to .ensures),
     )
 
 returns : tie.Need-returns Inv-loop μ-loop

@@ -1,0 +1,277 @@
+-- The blocks before a place are taken, and what the locals hold is the book after them.
+use mathlib.Core.Path.{_≡_, sym, ap, subst, _∙_}
+use mathlib.Core.List.{List}
+use Prim.Native.Nat.{ℕ, _-_, _<_}
+use native.Mathlib.Omega.{arith}
+use denote.Ref.{now}
+use lib.ListN.{length, getD, take, drop}
+use Rattle.amounts.specs.Decline.{taken, checked}
+use Rattle.layout.specs.Frame.{frameChecks}
+use Rattle.layout.specs.declared.setup.Setup.{Setup}
+use Rattle.layout.proofs.frame.Laws.{Framed, framed, number-small}
+use Rattle.book.specs.Site.{Sound, bookWith, freshYear}
+use Rattle.book.specs.Steps.{yearWith}
+use Rattle.book.specs.Whole.{Outcome, ended}
+use Rattle.book.specs.declared.site.Book.{Book}
+use Rattle.book.specs.declared.site.Year.{Year}
+use Rattle.book.specs.declared.whole.WholeRead.{WholeRead}
+use Rattle.book.proofs.answer.Laws.{table-declined, table-accepted}
+use Rattle.book.proofs.block.Laws.{not-framed}
+use Rattle.book.proofs.site.Laws.{sound-fresh}
+use Rattle.book.proofs.whole.Laws.{Upto, upto-none, upto-next, upto-stop, upto-all, end-after, end-inside, posts-refused, posts-entered, setup-refused, setup-entered}
+use borrow.Author.Needs.{needs}
+use Rattle.book.proofs.whole.take_whole.Statement.{statement}
+use Rattle.book.proofs.whole.take_whole.Tie as tie
+
+abbrev Inv-loop : tie.InvT-loop
+Inv-loop journal setup₀ store₀ sums₀ handled₀ posts₀ closed₀ blocks₀ at₀ setup store sums handled posts closed blocks at = Upto journal (bookWith setup (yearWith store sums handled posts closed) blocks) at
+
+abbrev μ-loop : tie.MeasureT-loop
+μ-loop journal setup₀ store₀ sums₀ handled₀ posts₀ closed₀ blocks₀ at₀ setup store sums handled posts closed blocks at = length journal - at
+
+abbrev start : tie.At-loop Inv-loop μ-loop → tie.Start Inv-loop μ-loop
+start l = l .before .before .before
+
+abbrev year : tie.At-loop Inv-loop μ-loop → Year
+year l = let k = l .loop in yearWith (k .store) (k .sums) (k .handled) (k .posts) (k .closed)
+
+abbrev book : tie.At-loop Inv-loop μ-loop → Book
+book l = bookWith (l .loop .setup) (year l) (l .loop .blocks)
+
+-- ---- the part that a turn reads
+
+abbrev at : tie.After-part-end Inv-loop μ-loop → tie.At-loop Inv-loop μ-loop
+at c = c .before .before
+
+abbrev bytes : tie.After-part-end Inv-loop μ-loop → List ℕ
+bytes c = let k = at c .loop in take (c .part-end .result - k .at) (drop (k .at) (now (start (at c) .args .journal)))
+
+inside : (c : tie.After-part-end Inv-loop μ-loop) → at c .loop .at < length (now (start (at c) .args .journal))
+inside c = omega (arith, c .before .loop-test)
+
+ends-after : (c : tie.After-part-end Inv-loop μ-loop) → at c .loop .at < c .part-end .result
+ends-after c = end-after (now (start (at c) .args .journal)) (at c .loop .at) (c .part-end .result) (inside c) (c .part-end .ensures)
+
+-- ---- the block that it is
+
+abbrev ending : tie.After-check-frame Inv-loop μ-loop → tie.After-part-end Inv-loop μ-loop
+ending c = c .before .before
+
+abbrev frame : tie.After-enum-told Inv-loop μ-loop → tie.After-check-frame Inv-loop μ-loop
+frame c = c .before .before
+
+passes : (c : tie.After-enum-told Inv-loop μ-loop)
+    → let e = ending (frame c) in Framed (at e .loop .blocks) (bytes e) × (checked (frameChecks (at e .loop .blocks) (bytes e)) (bytes e) ≡ taken (bytes e))
+passes c =
+    let e = ending (frame c) in
+    let n = at e .loop .blocks in
+    let f = table-accepted (frameChecks n (bytes e)) _ (bytes e) (frame c .check-frame .ensures) (c .enum-told .given .1) in
+    (framed n (bytes e) (bytes e) (bytes e) f .0, f)
+
+small : (c : tie.After-shared-slice-known2 Inv-loop μ-loop) (i : ℕ) → getD (bytes (ending (frame (c .before)))) i 0 < 256
+small c i = c .shared-slice-known2 .given i .fits
+
+abbrev opened : tie.After-body Inv-loop μ-loop → tie.After-shared-slice-known2 Inv-loop μ-loop
+opened c = c .before .before
+
+-- a number of 16 bits
+few : (c : tie.After-body Inv-loop μ-loop) → let k = at (ending (frame (opened c .before))) .loop in k .blocks < 65536
+few c = let t = opened c in let e = ending (frame (t .before)) in number-small (at e .loop .blocks) (bytes e) (small t) (passes (t .before) .0)
+
+fresh-setup-requires : tie.Need-fresh-setup-requires Inv-loop μ-loop
+fresh-setup-requires c κs = search needs
+
+loop-holds : tie.Need-loop-holds Inv-loop μ-loop
+loop-holds c =
+    let s = c .before .before in
+    upto-none (now (s .args .journal)) _ (ap (λ (u : Setup). bookWith u freshYear 0) (c .fresh-setup .ensures)) sound-fresh
+
+part-end-requires : tie.Need-part-end-requires Inv-loop μ-loop
+part-end-requires c κs = omega arith
+
+sub-part : tie.Need-sub-part Inv-loop μ-loop
+sub-part c = omega (arith, ends-after c)
+
+part-part-start : tie.Need-part-part-start Inv-loop μ-loop
+part-part-start c = omega (arith, ends-after c)
+
+part-part-end : tie.Need-part-part-end Inv-loop μ-loop
+part-part-end c = omega (arith, end-inside (now (start (at c) .args .journal)) (at c .loop .at) (c .part-end .result) (inside c) (c .part-end .ensures))
+
+check-frame-requires : tie.Need-check-frame-requires Inv-loop μ-loop
+check-frame-requires c κs = search needs
+
+enum-known-d : tie.Need-enum-known-d Inv-loop μ-loop
+enum-known-d c = search needs
+
+refused-at-requires : tie.Need-refused-at-requires Inv-loop μ-loop
+refused-at-requires c κs = search needs
+
+returns : tie.Need-returns Inv-loop μ-loop
+returns c =
+    let k = c .before .before .before .before in
+    let e = ending k in
+    let l = at e in
+    let s = now (start l .args .journal) in
+    let d = c .before .before .d .given .0 .0 in
+    let no = not-framed (book l) (bytes e) (d .number) (table-declined (frameChecks (l .loop .blocks) (bytes e)) _ (bytes e) (k .check-frame .ensures) d (c .before .before .d .given .1)) in
+    (c .refused-at .ensures .0 ∙ ap ended (upto-stop s (l .loop .at) (e .part-end .result) (inside e) (e .part-end .ensures) (book l) (d .number) (l .loop .inv) no), c .refused-at .ensures .1)
+
+enum-told : tie.Need-enum-told Inv-loop μ-loop
+enum-told c = search needs
+
+shared-slice-read-kind : tie.Need-shared-slice-read-kind Inv-loop μ-loop
+shared-slice-read-kind c = omega (arith, passes (c .before) .0 .long)
+
+shared-slice-read-count : tie.Need-shared-slice-read-count Inv-loop μ-loop
+shared-slice-read-count c = omega (arith, passes (c .before .before) .0 .long)
+
+sub-body : tie.Need-sub-body Inv-loop μ-loop
+sub-body c = search needs
+
+part-body-start : tie.Need-part-body-start Inv-loop μ-loop
+part-body-start c = search needs
+
+part-body-end : tie.Need-part-body-end Inv-loop μ-loop
+part-body-end c = omega (arith, passes (c .before .before) .0 .long)
+
+run-body-requires : tie.Need-run-body-requires Inv-loop μ-loop
+run-body-requires c κs = let l = at (ending (frame (opened (c .before .before .before .before) .before))) in (l .loop .inv .sound .setup, l .loop .inv .sound .year)
+
+enum-known-v : tie.Need-enum-known-v Inv-loop μ-loop
+enum-known-v c = search needs
+
+refused-at-requires-2 : tie.Need-refused-at-requires-2 Inv-loop μ-loop
+refused-at-requires-2 c κs = search needs
+
+returns-2 : tie.Need-returns-2 Inv-loop μ-loop
+returns-2 c =
+    let r = c .before .before .before .before in
+    let i = r .before .before .before .before in
+    let t = opened (i .before) .before in
+    let e = ending (frame t) in
+    let l = at e in
+    let s = now (start l .args .journal) in
+    let d = c .before .before .v .given .0 .0 in
+    let no = posts-refused (l .loop .setup) (year l) (l .loop .blocks) (bytes e) (passes t .1) _ d _ (i .if1 .taken) (r .run-body .ensures) (c .before .before .v .given .1) in
+    (c .refused-at2 .ensures .0 ∙ ap ended (upto-stop s (l .loop .at) (e .part-end .result) (inside e) (e .part-end .ensures) (book l) (d .number) (l .loop .inv) no), c .refused-at2 .ensures .1)
+
+enum-told-2 : tie.Need-enum-told-2 Inv-loop μ-loop
+enum-told-2 c = search needs
+
+add-blocks : tie.Need-add-blocks Inv-loop μ-loop
+add-blocks c = omega (arith, few (c .before .before .before .before .before .before .before))
+
+loop-less : tie.Need-loop-less Inv-loop μ-loop
+loop-less c =
+    let i = c .before .before .before .before .before .before in
+    let e = ending (frame (opened (i .before) .before)) in
+    omega (arith, ends-after e, end-inside (now (start (at e) .args .journal)) (at e .loop .at) (e .part-end .result) (inside e) (e .part-end .ensures))
+
+loop-again : tie.Need-loop-again Inv-loop μ-loop
+loop-again c =
+    let r = c .before .before in
+    let i = r .before .before .before .before in
+    let o = opened (i .before) in
+    let t = o .before in
+    let e = ending (frame t) in
+    let l = at e in
+    let s = now (start l .args .journal) in
+    upto-next s (l .loop .at) (e .part-end .result) (inside e) (e .part-end .ensures) (book l) _ (small o) (l .loop .inv)
+    (posts-entered (l .loop .setup) (year l) (l .loop .blocks) (bytes e) (passes t .1) _ _ (i .if1 .taken) (r .run-body .ensures) (c .enum-told2 .given .1))
+
+set-up-by-requires : tie.Need-set-up-by-requires Inv-loop μ-loop
+set-up-by-requires c κs = let l = at (ending (frame (opened (c .before) .before))) in l .loop .inv .sound .setup
+
+enum-known-v-2 : tie.Need-enum-known-v-2 Inv-loop μ-loop
+enum-known-v-2 c = search needs
+
+refused-at-requires-3 : tie.Need-refused-at-requires-3 Inv-loop μ-loop
+refused-at-requires-3 c κs = search needs
+
+returns-3 : tie.Need-returns-3 Inv-loop μ-loop
+returns-3 c =
+    let r = c .before .before .before .before in
+    let i = r .before in
+    let t = opened (i .before) .before in
+    let e = ending (frame t) in
+    let l = at e in
+    let s = now (start l .args .journal) in
+    let d = c .before .before .v2 .given .0 .0 in
+    let no = setup-refused (l .loop .setup) (year l) (l .loop .blocks) (bytes e) (passes t .1) _ d _ (i .if1 .left) (r .set-up-by .ensures) (c .before .before .v2 .given .1) in
+    (c .refused-at3 .ensures .0 ∙ ap ended (upto-stop s (l .loop .at) (e .part-end .result) (inside e) (e .part-end .ensures) (book l) (d .number) (l .loop .inv) no), c .refused-at3 .ensures .1)
+
+enum-told-3 : tie.Need-enum-told-3 Inv-loop μ-loop
+enum-told-3 c = search needs
+
+add-blocks-2 : tie.Need-add-blocks-2 Inv-loop μ-loop
+add-blocks-2 c = omega (arith, few (c .before .before .before .before .before))
+
+loop-less-2 : tie.Need-loop-less-2 Inv-loop μ-loop
+loop-less-2 c =
+    let i = c .before .before .before .before in
+    let e = ending (frame (opened (i .before) .before)) in
+    omega (arith, ends-after e, end-inside (now (start (at e) .args .journal)) (at e .loop .at) (e .part-end .result) (inside e) (e .part-end .ensures))
+
+loop-again-2 : tie.Need-loop-again-2 Inv-loop μ-loop
+loop-again-2 c =
+    let r = c .before .before .before in
+    let i = r .before in
+    let o = opened (i .before) in
+    let t = o .before in
+    let e = ending (frame t) in
+    let l = at e in
+    let s = now (start l .args .journal) in
+    upto-next s (l .loop .at) (e .part-end .result) (inside e) (e .part-end .ensures) (book l) _ (small o) (l .loop .inv)
+    (setup-entered (l .loop .setup) (year l) (l .loop .blocks) (bytes e) (passes t .1) _ _ (i .if1 .left) (r .set-up-by .ensures) (c .before .enum-told3 .given .1))
+
+read-to-requires : tie.Need-read-to-requires Inv-loop μ-loop
+read-to-requires c κs = search needs
+
+returns-4 : tie.Need-returns-4 Inv-loop μ-loop
+returns-4 c =
+    let l = c .before .before in
+    let s = now (start l .args .journal) in
+    let e = c .read-to .ensures in
+    (e ∙ ap ended (upto-all s (book l) (l .loop .at) (l .loop .inv) (omega (arith, c .before .loop-test))), subst (λ (r : WholeRead). Sound (r .book)) (sym e) (l .loop .inv .sound))
+
+pub take-whole-spec : {M : Type 1} → statement M
+take-whole-spec =
+    tie.close
+    (tie.spec
+    Inv-loop
+    μ-loop
+    fresh-setup-requires
+    loop-holds
+    part-end-requires
+    sub-part
+    part-part-start
+    part-part-end
+    check-frame-requires
+    enum-known-d
+    refused-at-requires
+    returns
+    enum-told
+    shared-slice-read-kind
+    shared-slice-read-count
+    sub-body
+    part-body-start
+    part-body-end
+    run-body-requires
+    enum-known-v
+    refused-at-requires-2
+    returns-2
+    enum-told-2
+    add-blocks
+    loop-less
+    loop-again
+    set-up-by-requires
+    enum-known-v-2
+    refused-at-requires-3
+    returns-3
+    enum-told-3
+    add-blocks-2
+    loop-less-2
+    loop-again-2
+    read-to-requires
+    returns-4)
