@@ -1,12 +1,13 @@
-// Reading a journal: a state by value that is fed one part of the input at a time.
+// What a journal prints: fed one part of the input at a time to a state by value, or whole.
 ghost use mathlib.Core.Path.{_≡_};
 ghost use Rattle.book.specs.Site.{Sound};
 ghost use Rattle.text.specs.Writing.{Tries};
-ghost use Rattle.journal.specs.Reading.{started, fed, hasStopped, textOf, Advances};
+ghost use Rattle.journal.specs.Reading.{printedOf, started, fed, hasStopped, textOf, Advances};
 use amounts::decline::Decline;
 use book::block;
 use book::site;
 use book::site::Book;
+use book::whole;
 use layout::verdict::Verdict;
 use text::print;
 use text::writing::Written;
@@ -79,5 +80,18 @@ pub fn print(r: Reading, out: &mut [u8]) -> Written
     match stopped {
         Stopped::No => print::print_return(b, out),
         Stopped::By(d) => print::print_refused(site::block_number(b), d.number, out),
+    }
+}
+
+// What a whole journal in memory prints, where as many bytes are free.
+pub fn print_whole(journal: &[u8], out: &mut [u8]) -> Written
+    ensures { λ w. ⌜ Tries 1336 (now (out .entry)) 0 (printedOf (now (journal .entry))) (now (out .exit)) w ⌝ }
+{
+    let end = whole::take_whole(journal);
+    let v = end.verdict;
+    let b = end.book;
+    match v {
+        Verdict::Accepted => print::print_return(b, out),
+        Verdict::Declined(d) => print::print_refused(end.place, d.number, out),
     }
 }
