@@ -10,7 +10,7 @@ use book::answer::Answered;
 use book::block;
 use book::posts;
 use book::site::Book;
-use report::report;
+use report::report::report_of;
 use streams::output;
 use streams::output::Output;
 use streams::trouble;
@@ -69,7 +69,7 @@ fn reported(b: Book, o: Output, place: u8) -> Turn
 {
     told(
         b,
-        line::report(o, place as u64, report::report_of(b, place as usize)),
+        line::report(o, place as u64, report_of(b, place as usize)),
     )
 }
 
