@@ -2,11 +2,11 @@
 ghost use Rattle.book.specs.Site.{Sound};
 use journal::reading;
 use journal::reading::Reading;
-use journal::text::Written;
 use streams::input;
 use streams::input::Part;
 use streams::output;
 use streams::trouble;
+use text::writing::Written;
 
 // What was read up to the end of the input or to the first decline, or to a read that failed.
 struct Journal {

@@ -1,50 +1,20 @@
 -- Reading a journal, and what `filing` prints (document 01, "`filing`").
-use Prim.Native.Nat.{ℕ, zero, suc, _+_, _-_, _<_}
+use Prim.Native.Nat.{ℕ, suc, _-_, _<_}
 use mathlib.Core.Path.{_≡_}
-use mathlib.Core.Bool.{Bool, true, false, cond}
-use mathlib.Core.List.{List, [], _∷_, _++_}
-use lib.Dec.{eqb}
-use lib.ListN.{length, take, drop}
+use mathlib.Core.Bool.{Bool, true, false}
+use mathlib.Core.List.{List, [], _∷_}
 use Rattle.amounts.specs.Decline.{Answer, taken, declined}
-use Rattle.book.specs.Report.{reportAt}
+use Rattle.book.specs.Block.{blockOn}
 use Rattle.book.specs.Site.{freshBook}
+use Rattle.book.specs.Whole.{partsIn, Outcome, read, refused, readAll}
 use Rattle.book.specs.declared.site.Book.{Book}
-use Rattle.journal.specs.Block.{blockOn}
-use Rattle.journal.specs.Text.{title, lineText, refusedText}
+use Rattle.text.specs.Line.{refusedText}
+use Rattle.text.specs.Print.{returnText}
 use Rattle.journal.specs.declared.reading.Reading as state
 use Rattle.journal.specs.declared.reading.Stopped.{Stopped}
 use Rattle.journal.specs.declared.reading.Stopped.the-variants.{No, By}
 
 -- ---- what a journal's bytes print
-
--- parts of 512 bytes, the last one perhaps shorter: "A last part shorter than 512 bytes is a block that decline 1 meets"; at most n parts
-unfoldable pub partsTo : ℕ → List ℕ → List (List ℕ)
-partsTo zero s = []
-partsTo (suc n) s = cond (eqb (length s) 0) [] (take 512 s ∷ partsTo n (drop 512 s))
-
-abbrev pub partsIn : List ℕ → List (List ℕ)
-partsIn s = partsTo (length s) s
-
--- the book after the last block, or the first decline: the block's place from 0, and the number
-pub data Outcome : Type 0 where
-  read : Book → Outcome
-  refused : ℕ → ℕ → Outcome
-
-abbrev pub onward : Answer Book → ℕ → (Book → Outcome) → Outcome
-onward (taken c) place next = next c
-onward (declined n) place next = refused place n
-
-unfoldable pub readAll : Book → ℕ → List (List ℕ) → Outcome
-readAll b place [] = read b
-readAll b place (s ∷ rest) = onward (blockOn b s) place (λ c. readAll c (suc place) rest)
-
--- "per substance in the book's order": the lines of the first n
-unfoldable pub linesTo : Book → ℕ → List ℕ
-linesTo b zero = []
-linesTo b (suc n) = linesTo b n ++ lineText (reportAt b n)
-
-abbrev pub returnText : Book → List ℕ
-returnText b = title ++ linesTo b (b .setup .outline .substances)
 
 -- "At the first decline it stops and prints only one line"
 abbrev pub outcomeText : Outcome → List ℕ

@@ -1,4 +1,2 @@
-// Journals: blocks of 512 bytes on a book, and the text of the return.
-pub mod block;
+// Journals: what they print, read part by part or whole.
 pub mod reading;
-pub mod text;

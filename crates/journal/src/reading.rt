@@ -1,19 +1,16 @@
-// Reading a journal: a state by value that is fed one part of the input at a time.
+// What a journal prints: fed one part of the input at a time to a state by value, or whole.
 ghost use mathlib.Core.Path.{_≡_};
-ghost use Prim.Native.Nat.{_+_, _≤_, min};
-ghost use lib.ListN.{length};
 ghost use Rattle.book.specs.Site.{Sound};
-ghost use Rattle.journal.specs.Reading.{partsIn, started, fed, fedAll, hasStopped, returnText, textOf, Advances};
-ghost use Rattle.journal.specs.Writing.{Puts, Tries};
-use crate::block;
-use crate::text;
-use crate::text::Written;
+ghost use Rattle.text.specs.Writing.{Tries};
+ghost use Rattle.journal.specs.Reading.{printedOf, started, fed, hasStopped, textOf, Advances};
 use amounts::decline::Decline;
-use book::report;
-use book::report::Reported;
+use book::block;
 use book::site;
 use book::site::Book;
+use book::whole;
 use layout::verdict::Verdict;
+use text::print;
+use text::writing::Written;
 
 pub enum Stopped {
     No,
@@ -73,79 +70,28 @@ pub fn has_stopped(r: Reading) -> bool
     }
 }
 
-// Where the part from a place on ends: 512 bytes on, or at the end of the journal.
-fn part_end(at: usize, length: usize) -> usize
-    requires { ⌜ at ≤ length ⌝ }
-    ensures { λ r. ⌜ r ≡ min (at + 512) length ⌝ }
-{
-    if length - at < 512 {
-        return length;
-    }
-    at + 512
-}
-
-// A whole journal, in parts of 512 bytes, the last one perhaps shorter, up to the first that is declined.
-pub fn read_whole(journal: &[u8]) -> Reading
-    ensures { λ r. ⌜ r ≡ fedAll started (partsIn (now (journal .entry))) ⌝ }
-    ensures { λ r. ⌜ Sound (r .book) ⌝ }
-{
-    let mut b = site::fresh();
-    let mut at: usize = 0;
-    while at < journal.len() {
-        let end = part_end(at, journal.len());
-        let a = block::take_block(b, &journal[at..end]);
-        let v = a.verdict;
-        b = a.book;
-        if let Verdict::Declined(first) = v {
-            return Reading {
-                book: b,
-                stopped: Stopped::By(first),
-            };
-        }
-        at = end;
-    }
-    Reading {
-        book: b,
-        stopped: Stopped::No,
-    }
-}
-
-// How many bytes are free where a text is printed: the title and eight lines are no longer.
-const PRINT_ROOM: usize = 1336;
-
-// The title and the line of each substance, from the start of a buffer on.
-fn put_return(out: &mut [u8], b: Book) -> usize
-    requires { ⌜ Sound b ⌝ }
-    requires { ⌜ 1336 ≤ length (now out) ⌝ }
-    ensures { λ n. ⌜ Puts (now (out .entry)) 0 (returnText b) (now (out .exit)) n ⌝ }
-{
-    let mut at = text::title_at(out, 0);
-    let mut i: usize = 0;
-    while i < 8 {
-        let Reported::Known(report) = report::report_of(b, i) else {
-            return at;
-        };
-        at = text::line_at(out, at, report);
-        i += 1;
-    }
-    at
-}
-
 // What there is to print after the parts that were fed, at the start of a lent buffer where 1,336 bytes are free.
 pub fn print(r: Reading, out: &mut [u8]) -> Written
     requires { ⌜ Sound (r .book) ⌝ }
     ensures { λ w. ⌜ Tries 1336 (now (out .entry)) 0 (textOf r) (now (out .exit)) w ⌝ }
 {
-    if out.len() < PRINT_ROOM {
-        return Written::NoRoom;
-    }
     let b = r.book;
     let stopped = r.stopped;
     match stopped {
-        Stopped::No => Written::At(put_return(out, b)),
-        Stopped::By(d) => {
-            let place = site::block_number(b);
-            Written::At(text::refused_at(out, 0, place as u64, d.number))
-        }
+        Stopped::No => print::print_return(b, out),
+        Stopped::By(d) => print::print_refused(site::block_number(b), d.number, out),
+    }
+}
+
+// What a whole journal in memory prints, where as many bytes are free.
+pub fn print_whole(journal: &[u8], out: &mut [u8]) -> Written
+    ensures { λ w. ⌜ Tries 1336 (now (out .entry)) 0 (printedOf (now (journal .entry))) (now (out .exit)) w ⌝ }
+{
+    let end = whole::take_whole(journal);
+    let v = end.verdict;
+    let b = end.book;
+    match v {
+        Verdict::Accepted => print::print_return(b, out),
+        Verdict::Declined(d) => print::print_refused(end.place, d.number, out),
     }
 }

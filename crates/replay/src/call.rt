@@ -7,10 +7,10 @@ ghost use Rattle.replay.specs.Record.{Within, isWhole};
 use crate::line;
 use crate::record::Record;
 use book::answer::Answered;
-use book::posting;
-use book::report;
+use book::block;
+use book::posts;
 use book::site::Book;
-use journal::block;
+use report::report::report_of;
 use streams::output;
 use streams::output::Output;
 use streams::trouble;
@@ -69,7 +69,7 @@ fn reported(b: Book, o: Output, place: u8) -> Turn
 {
     told(
         b,
-        line::report(o, place as u64, report::report_of(b, place as usize)),
+        line::report(o, place as u64, report_of(b, place as usize)),
     )
 }
 
@@ -78,7 +78,7 @@ fn call(b: Book, o: Output, tag: u8, s: &[u8]) -> Turn
     ensures { λ r. ⌜ Sound (r .book) ⌝ }
 {
     if tag == b'P' {
-        return answered(o, b"post ", posting::take_post(b, s));
+        return answered(o, b"post ", posts::take_post(b, s));
     }
     if tag == b'B' {
         return answered(o, b"block ", block::take_block(b, s));

@@ -1,10 +1,10 @@
 // The parts of a line. A field of a report has a space before it.
-use book::report::Filing;
-use book::report::Headings;
-use book::report::Line;
-use book::report::Report;
-use book::report::Reported;
 use layout::verdict::Verdict;
+use report::line::Headings;
+use report::line::Line;
+use report::report::Filing;
+use report::report::Report;
+use report::report::Reported;
 use streams::output::Output;
 use streams::output::decimal;
 use streams::output::text;

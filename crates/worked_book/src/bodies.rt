@@ -1,5 +1,7 @@
-// The bodies of set-up blocks.
+// The bodies of set-up blocks, and the blocks.
 ghost use Prim.Native.Nat.{_+_, _≤_, _<_};
+use layout::frame;
+use layout::frame::CheckSums;
 
 fn put16(body: &mut [u8; 500], at: usize, x: u16)
     requires { ⌜ at + 2 ≤ 500 ⌝ }
@@ -63,4 +65,34 @@ pub(crate) fn treated(
     put32(&mut body, at + 9, water);
     put32(&mut body, at + 13, water_destroyed);
     body
+}
+
+fn fill(block: &mut [u8; 512], body: &[u8; 500]) {
+    for i in 0..500 {
+        block[8 + i] = body[i];
+    }
+}
+
+fn sums_of(block: &[u8; 512]) -> CheckSums {
+    frame::check_sums(block)
+}
+
+// A block of a kind, with its number and check sums.
+pub(crate) fn framed(kind: u8, count: u8, number: u32, body: &[u8; 500]) -> [u8; 512] {
+    let mut block = [0u8; 512];
+    block[0] = b'P';
+    block[1] = b'R';
+    block[2] = b'T';
+    block[3] = b'R';
+    block[4] = kind;
+    block[5] = count;
+    block[6] = (number % 256) as u8;
+    block[7] = (number / 256 % 256) as u8;
+    fill(&mut block, body);
+    let sums = sums_of(&block);
+    block[508] = (sums.plain % 256) as u8;
+    block[509] = (sums.plain / 256) as u8;
+    block[510] = (sums.weighted % 256) as u8;
+    block[511] = (sums.weighted / 256) as u8;
+    block
 }

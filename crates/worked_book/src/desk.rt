@@ -1,13 +1,16 @@
 // The library's calls, each with its line.
 ghost use Rattle.book.specs.Site.{Sound};
+use crate::bodies;
 use crate::line;
 use crate::posts;
-use book::posting;
-use book::report;
-use book::setup;
+use book::block;
+use book::posts::take_post;
+use book::site;
 use book::site::Book;
-use book::stage;
-use layout::post::Post;
+use layout::setup::check_setup;
+use layout::stage::check_stage;
+use post::fields::Post;
+use report::report::report_of;
 
 pub(crate) fn give(b: Book, p: Post) -> Book
     requires { ⌜ Sound b ⌝ }
@@ -15,7 +18,7 @@ pub(crate) fn give(b: Book, p: Post) -> Book
 {
     line::post(p);
     let bytes = posts::encode(p);
-    let answered = posting::take_post(b, &bytes);
+    let answered = take_post(b, &bytes);
     let verdict = answered.verdict;
     line::verdict(verdict);
     answered.book
@@ -54,7 +57,20 @@ pub(crate) fn bytes(b: Book, s: &[u8]) -> Book
 {
     line::text(b"bytes");
     line::number(s.len() as u64);
-    let answered = posting::take_post(b, s);
+    let answered = take_post(b, s);
+    let verdict = answered.verdict;
+    line::verdict(verdict);
+    answered.book
+}
+
+// A block of a kind with its number and check sums, on the book.
+fn framed(b: Book, kind: u8, count: u8, body: &[u8; 500]) -> Book
+    requires { ⌜ Sound b ⌝ }
+    ensures { λ r. ⌜ Sound r ⌝ }
+{
+    line::number(count as u64);
+    let block = bodies::framed(kind, count, site::block_number(b), body);
+    let answered = block::take_block(b, &block);
     let verdict = answered.verdict;
     line::verdict(verdict);
     answered.book
@@ -64,46 +80,37 @@ pub(crate) fn set_up(b: Book, count: u8, body: &[u8; 500]) -> Book
     requires { ⌜ Sound b ⌝ }
     ensures { λ r. ⌜ Sound r ⌝ }
 {
-    set_up_of(b, count, body)
-}
-
-// A body of any length.
-pub(crate) fn set_up_of(b: Book, count: u8, body: &[u8]) -> Book
-    requires { ⌜ Sound b ⌝ }
-    ensures { λ r. ⌜ Sound r ⌝ }
-{
     line::text(b"set-up");
-    line::number(count as u64);
-    let answered = setup::set_up(b, count, body);
-    let verdict = answered.verdict;
-    line::verdict(verdict);
-    answered.book
+    framed(b, 1, count, body)
 }
 
 pub(crate) fn describe(b: Book, place: u8, body: &[u8; 500]) -> Book
     requires { ⌜ Sound b ⌝ }
     ensures { λ r. ⌜ Sound r ⌝ }
 {
-    describe_of(b, place, body)
+    line::text(b"stage");
+    framed(b, 2, place, body)
 }
 
-// A body of any length.
-pub(crate) fn describe_of(b: Book, place: u8, body: &[u8]) -> Book
-    requires { ⌜ Sound b ⌝ }
-    ensures { λ r. ⌜ Sound r ⌝ }
-{
+// A body that is no block's, by its layout alone.
+pub(crate) fn set_up_of(b: Book, count: u8, body: &[u8]) {
+    line::text(b"set-up");
+    line::number(count as u64);
+    let setup = site::setup_of(b);
+    line::verdict(check_setup(setup.outline, count, body));
+}
+
+pub(crate) fn describe_of(b: Book, place: u8, body: &[u8]) {
     line::text(b"stage");
     line::number(place as u64);
-    let answered = stage::describe(b, place, body);
-    let verdict = answered.verdict;
-    line::verdict(verdict);
-    answered.book
+    let setup = site::setup_of(b);
+    line::verdict(check_stage(setup.outline, place, body));
 }
 
 pub(crate) fn report(b: Book, place: usize)
     requires { ⌜ Sound b ⌝ }
 {
-    line::report(place, report::report_of(b, place));
+    line::report(place, report_of(b, place));
 }
 
 // Two substances.

@@ -1,12 +1,12 @@
 // The parts of a line: what was called, numbers with a space before each, and the answer, which ends the line.
 use amounts::decline::Decline;
-use book::report::Filing;
-use book::report::Headings;
-use book::report::Report;
-use book::report::Reported;
-use layout::post::Post;
 use layout::verdict::Verdict;
 use libc::STDOUT_FILENO;
+use post::fields::Post;
+use report::line::Headings;
+use report::report::Filing;
+use report::report::Report;
+use report::report::Reported;
 
 pub(crate) fn text(bytes: &[u8]) {
     io::write_all(STDOUT_FILENO, bytes);

@@ -115,13 +115,14 @@ pub(crate) fn pairs() {
 // 6 for a length; 4 once set up, whatever the body, and on a closed book.
 pub(crate) fn turns() {
     let body = sites::materials();
-    let mut b = desk::set_up_of(site::fresh(), 2, &body[0..499]);
-    b = desk::set_up_of(b, 2, &[0; 501]);
+    let mut b = site::fresh();
+    desk::set_up_of(b, 2, &body[0..499]);
+    desk::set_up_of(b, 2, &[0; 501]);
     desk::reports(b);
     b = desk::set_up(b, 2, &body);
     desk::reports(b);
     b = desk::set_up(b, 2, &body);
-    b = desk::set_up_of(b, 9, &[0; 0]);
+    desk::set_up_of(b, 9, &[0; 0]);
     desk::reports(b);
     line::text(b"closed ");
     b = desk::set_up(sites::closed(), 2, &body);

@@ -2,12 +2,11 @@
 ghost use Rattle.book.specs.Site.{Sound};
 use crate::bodies;
 use crate::posts;
-use book::posting;
-use book::setup;
+use book::block;
+use book::posts::take_post;
 use book::site;
 use book::site::Book;
-use book::stage;
-use layout::post::Post;
+use post::fields::Post;
 
 // The first material is full, the second holds 81 only.
 pub(crate) fn materials() -> [u8; 500] {
@@ -29,7 +28,7 @@ pub(crate) fn set_up() -> Book
     ensures { λ r. ⌜ Sound r ⌝ }
 {
     let body = materials();
-    let answered = setup::set_up(site::fresh(), 2, &body);
+    let answered = block::take_block(site::fresh(), &bodies::framed(1, 2, 0, &body));
     answered.book
 }
 
@@ -37,9 +36,9 @@ pub(crate) fn described() -> Book
     ensures { λ r. ⌜ Sound r ⌝ }
 {
     let body = stage();
-    let answered = stage::describe(set_up(), 0, &body);
+    let answered = block::take_block(set_up(), &bodies::framed(2, 0, 1, &body));
     let b = answered.book;
-    let answered = stage::describe(b, 1, &body);
+    let answered = block::take_block(b, &bodies::framed(2, 1, 2, &body));
     answered.book
 }
 
@@ -48,7 +47,7 @@ pub(crate) fn took(b: Book, p: Post) -> Book
     ensures { λ r. ⌜ Sound r ⌝ }
 {
     let bytes = posts::encode(p);
-    let answered = posting::take_post(b, &bytes);
+    let answered = take_post(b, &bytes);
     answered.book
 }
 

@@ -87,11 +87,12 @@ pub(crate) fn rates() {
 pub(crate) fn turns() {
     let body = sites::stage();
     desk::describe(site::fresh(), 0, &body);
-    let mut b = desk::describe_of(sites::set_up(), 0, &body[0..499]);
+    let mut b = sites::set_up();
+    desk::describe_of(b, 0, &body[0..499]);
     b = desk::describe(b, 1, &body);
     b = desk::describe(b, 0, &body);
     b = desk::describe(b, 0, &body);
-    b = desk::describe_of(b, 2, &[0; 0]);
+    desk::describe_of(b, 2, &[0; 0]);
     b = desk::post(b, 1, 0, 0, 0, 0, 1);
     desk::reports(b);
     b = desk::describe(b, 1, &body);

@@ -1,17 +1,13 @@
 -- What a host gets of a text that is written where there is room. Assumes nothing.
-use mathlib.Core.Path.{_≡_, refl, ap, subst, _∙_}
+use mathlib.Core.Path.{_≡_, refl}
 use mathlib.Core.Bool.{Bool, true, false, cond}
 use mathlib.Core.List.{List}
-use Prim.Native.Nat.{ℕ, _+_, _-_}
+use Prim.Native.Nat.{ℕ, _+_}
 use native.Mathlib.Omega.{arith}
 use lib.Dec.{leb}
 use lib.ListN.{length}
-use Rattle.journal.specs.Reading.{partsIn, printedOf, started, fedAll, textOf}
-use Rattle.journal.specs.Writing.{triedAnswer, Tries}
-use Rattle.journal.specs.declared.reading.Reading.{Reading}
-use Rattle.journal.specs.declared.text.Written.{Written}
-use Rattle.journal.specs.declared.text.Written.the-variants.{At, NoRoom}
-use Rattle.journal.proofs.reading.Laws.{filing-is}
+use Rattle.text.specs.Writing.{triedAnswer}
+use Rattle.text.specs.declared.writing.Written.the-variants.{At, NoRoom}
 use Rattle.prtr.specs.Host.{lengthIn}
 
 at-same : (n m : ℕ) → At n ≡ At m → n ≡ m
@@ -33,7 +29,3 @@ no-length l text e = go (leb 1336 (length l)) e
     go : (t : Bool) → NoRoom ≡ cond t (At (0 + length text)) NoRoom → 0 ≡ cond t (length text) 0
     go true q = let z : _≡_ {A = ℕ} 0 1 = cc in absurd (omega arith)
     go false q = refl
-
--- a journal that is read whole prints what its bytes say
-pub prints : (s l m : List ℕ) (state : Reading) (w : Written) → state ≡ fedAll started (partsIn s) → Tries 1336 l 0 (textOf state) m w → Tries 1336 l 0 (printedOf s) m w
-prints s l m state w e t = subst (λ (x : List ℕ). Tries 1336 l 0 x m w) (ap textOf e ∙ filing-is s) t

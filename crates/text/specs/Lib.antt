@@ -1,0 +1,4 @@
+pub mod Writing
+pub mod Number
+pub mod Line
+pub mod Print

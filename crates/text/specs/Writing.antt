@@ -1,0 +1,33 @@
+-- A text written into a lent buffer at a place.
+use Prim.Native.Nat.{ℕ, _+_, _≤_}
+use mathlib.Core.Path.{_≡_}
+use mathlib.Core.Bool.{cond}
+use mathlib.Core.List.{List, _++_}
+use lib.Dec.{leb}
+use lib.ListN.{length, take, drop}
+use Rattle.text.specs.declared.writing.Written.{Written}
+use Rattle.text.specs.declared.writing.Written.the-variants.{At, NoRoom}
+
+-- the buffer with the text at the place, and all else as it was
+unfoldable pub written : List ℕ → ℕ → List ℕ → List ℕ
+written l at text = take at l ++ text ++ drop (at + length text) l
+
+-- the text ends within the buffer
+pub record Room (l : List ℕ) (at : ℕ) (text : List ℕ) : Type 0 where
+  pub within : at + length text ≤ length l
+
+-- the buffer l became m, with the text at the place, and the next place is answered
+pub record Puts (l : List ℕ) (at : ℕ) (text m : List ℕ) (r : ℕ) : Type 0 where
+  pub text-in : m ≡ written l at text
+  pub next : r ≡ at + length text
+
+-- what stands in the buffer after a call that writes only where so many bytes are free, and what it answers
+unfoldable pub triedIn : ℕ → List ℕ → ℕ → List ℕ → List ℕ
+triedIn free l at text = cond (leb (at + free) (length l)) (written l at text) l
+
+unfoldable pub triedAnswer : ℕ → List ℕ → ℕ → List ℕ → Written
+triedAnswer free l at text = cond (leb (at + free) (length l)) (At (at + length text)) NoRoom
+
+pub record Tries (free : ℕ) (l : List ℕ) (at : ℕ) (text m : List ℕ) (r : Written) : Type 0 where
+  pub text-in : m ≡ triedIn free l at text
+  pub answer : r ≡ triedAnswer free l at text
