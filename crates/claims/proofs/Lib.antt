@@ -7,3 +7,4 @@ pub mod Report
 pub mod Demand
 pub mod Weighing
 pub mod Singles
+pub mod Figures

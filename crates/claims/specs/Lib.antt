@@ -2,3 +2,4 @@ pub mod Standing
 pub mod Demand
 pub mod Weighing
 pub mod Singles
+pub mod Figures
