@@ -63,7 +63,6 @@ kind-of-requires c κs = search needs
 enum-known-k : tie.Need-enum-known-k
 enum-known-k c = search needs
 
--- /work/g/target/rlib/amounts.rlib/interface/lang/src/decline.rt:7:30
 enum-told : tie.Need-enum-told
 enum-told c = search needs
 
