@@ -16,12 +16,13 @@ use Rattle.amounts.proofs.decline.Laws.{was-taken}
 use Rattle.layout.specs.Outline.{mayPost}
 use Rattle.layout.specs.Posts.{partOf, postIn, ownChecks}
 use Rattle.layout.specs.Verdict.{verdictOf}
+use Rattle.layout.specs.declared.outline.Outline.{Outline}
 use Rattle.layout.specs.declared.setup.Setup.{Setup}
 use Rattle.layout.specs.declared.verdict.Verdict.{Verdict}
 use Rattle.layout.specs.declared.verdict.Verdict.the-variants.{Accepted, Declined}
 use Rattle.layout.proofs.Checked.{passed}
 use Rattle.layout.proofs.posts.Laws.{Owned, owned}
-use Rattle.post.specs.Moves.{moveAt, Fits}
+use Rattle.post.specs.Moves.{moveAt}
 use Rattle.post.specs.declared.moves.Move.{Move}
 use Rattle.post.proofs.moves.Laws.{move-fits}
 use Rattle.book.specs.Entry.{isThere, storeAfter, sumsAfter, handledAfter, closes, yearAfter}
@@ -153,8 +154,12 @@ many-sound u y z posts (suc n) su h e =
 
 -- ---- parts of the bytes
 
-pub part-at : (size i : ℕ) (s : List ℕ) → take (i * size + size - i * size) (drop (i * size) s) ≡ partOf size s i
+part-at : (size i : ℕ) (s : List ℕ) → take (i * size + size - i * size) (drop (i * size) s) ≡ partOf size s i
 part-at size i s = let e : i * size + size - i * size ≡ size = omega arith in ap (λ (n : ℕ). take n (drop (i * size) s)) e
+
+pub admitted-at : (o : Outline) (numbers : List ℕ) (closed : Bool) (posts size i : ℕ) (s : List ℕ) {x : Answer Move}
+    → x ≡ admitted o numbers closed posts (take (i * size + size - i * size) (drop (i * size) s)) → x ≡ admitted o numbers closed posts (partOf size s i)
+admitted-at o numbers closed posts size i s e = e ∙ ap (admitted o numbers closed posts) (part-at size i s)
 
 pub part-fits : (size i n long : ℕ) → i < n → n * size ≤ long → i * size + size ≤ long
 part-fits size i n long h g =

@@ -11,9 +11,9 @@ use Rattle.layout.proofs.verdict.Laws.{misses}
 use Rattle.post.specs.Moves as moves
 use Rattle.post.specs.declared.moves.Move.{Move}
 use Rattle.book.specs.Posts.{takenTo}
-use Rattle.book.specs.Steps.{admitted, yearWith}
+use Rattle.book.specs.Steps.{yearWith}
 use Rattle.book.specs.declared.site.Year.{Year}
-use Rattle.book.proofs.posts.Laws.{Turn, tried, turn-declined, turn-short, turn-room, turn-few, turn-entered, none-yet, part-at, part-fits, ran-declined, ran-taken}
+use Rattle.book.proofs.posts.Laws.{Turn, tried, turn-declined, turn-short, turn-room, turn-few, turn-entered, none-yet, admitted-at, part-fits, ran-declined, ran-taken}
 use borrow.Author.Needs.{needs}
 use Rattle.book.proofs.posts.run.Statement.{statement}
 use Rattle.book.proofs.posts.run.Tie as tie
@@ -62,7 +62,7 @@ was-tried : (c : tie.After-admit Inv-loop μ-loop) → moves.answer (c .admit .r
 was-tried c =
     let a = start (inside c .before) .args in
     let k = inside c .before .loop in
-    c .admit .ensures ∙ ap (admitted (a .setup .outline) (a .setup .numbers) (k .ended) (k .count)) (part-at (a .size) (k .i) (now (a .s)))
+    admitted-at (a .setup .outline) (a .setup .numbers) (k .ended) (k .count) (a .size) (k .i) (now (a .s)) (c .admit .ensures)
 
 -- the post that is admitted
 abbrev at : tie.After-known-told2 Inv-loop μ-loop → tie.After-admit Inv-loop μ-loop

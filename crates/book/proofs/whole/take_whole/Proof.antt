@@ -11,7 +11,7 @@ use Rattle.layout.specs.declared.setup.Setup.{Setup}
 use Rattle.layout.proofs.frame.Laws.{Framed, framed, number-small}
 use Rattle.book.specs.Site.{Sound, bookWith, freshYear}
 use Rattle.book.specs.Steps.{yearWith}
-use Rattle.book.specs.Whole.{Outcome, ended}
+use Rattle.book.specs.Whole.{ended}
 use Rattle.book.specs.declared.site.Book.{Book}
 use Rattle.book.specs.declared.site.Year.{Year}
 use Rattle.book.specs.declared.whole.WholeRead.{WholeRead}
