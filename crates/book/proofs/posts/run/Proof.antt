@@ -10,6 +10,7 @@ use Rattle.layout.specs.Posts.{partOf}
 use Rattle.layout.proofs.verdict.Laws.{misses}
 use Rattle.post.specs.Moves as moves
 use Rattle.post.specs.declared.moves.Move.{Move}
+use Rattle.book.specs.Entry.{isThere}
 use Rattle.book.specs.Posts.{takenTo}
 use Rattle.book.specs.Steps.{yearWith}
 use Rattle.book.specs.declared.site.Year.{Year}
@@ -122,8 +123,9 @@ returns-2 : tie.Need-returns-2 Inv-loop μ-loop
 returns-2 c =
     let e = c .before in
     let k = known e in
+    let l = inside (at k) .before .loop in
     ran-declined _ 11 _
-    (turn-short (turn (at k)) _ (omega (arith, inside (at k) .loop-test)) _ (was-known k) (misses (e .enter .ensures .there) (c .if1 .taken)))
+    (turn-short (turn (at k)) _ (omega (arith, inside (at k) .loop-test)) _ (was-known k) (misses {t = isThere (l .store) (l .sums) (move k)} (e .enter .ensures .there) (c .if1 .taken)))
 
 add-count : tie.Need-add-count Inv-loop μ-loop
 add-count c = let k = known (c .before) in omega (arith, turn-few (turn (at k)) _ (was-known k))
