@@ -1,6 +1,6 @@
 -- What a post does, as one value (document 01, "Posts" and "Why a call is declined, in checking order", 6 to 9).
 use Prim.Native.Nat.{ℕ, _*_, _≤_, _<_}
-use mathlib.Core.Bool.{Bool, _&&_}
+use mathlib.Core.Bool.{Bool}
 use mathlib.Core.List.{List, [], _∷_}
 use lib.Dec.{eqb}
 use lib.ListN.{length, getD}
