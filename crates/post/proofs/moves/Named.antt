@@ -51,9 +51,19 @@ AllApart (r ∷ rs) = Apart (r .does) × AllApart rs
 
 all-apart : AllApart rows
 unfolding rows
-all-apart =
-    (tt, (tt, (tt, (tt,
-    (omega arith, (omega arith, (omega arith, (omega arith, (omega arith, (omega arith, (omega arith, (omega arith, (tt, tt)))))))))))))
+all-apart = (
+  tt,
+  (
+    tt,
+    (
+      tt,
+      (
+        tt,
+        (omega arith, (omega arith, (omega arith, (omega arith, (omega arith, (omega arith, (omega arith, (omega arith, (tt, tt))))))))),
+      ),
+    ),
+  ),
+)
 
 apart : (n : ℕ) (r : Row) → kindOf n ≡ taken r → Apart (r .does)
 unfolding kindOf find
