@@ -29,7 +29,8 @@ use Rattle.report.proofs.report.Laws.{report-handled, report-entered, headings-
 use Rattle.claims.specs.Demand as demand
 use Rattle.claims.specs.Demand.{Balanced}
 use Rattle.claims.specs.Standing.{Standing, numbersOf, classesOf, countedIn, movesOf}
-use Rattle.claims.specs.Weighing.{waterTo, residueTo, sideFor, ratesFor, receives, issues, brought, received, issued, store, formed, handledBy, came, left, remains, under, anyCloses, isClosed, heldAt, toGas, toWater, gasTotal, waterTotal, lineOf, reportBy, Weighed}
+use Rattle.claims.specs.Weighing.{waterTo, residueTo, sideFor, ratesFor, receives, issues, brought, received, issued, store, formed, handledBy, came}
+use Rattle.claims.specs.Weighing.{left, remains, under, anyCloses, isClosed, heldAt, toGas, toWater, gasTotal, waterTotal, lineOf, reportBy, Weighed}
 use Rattle.claims.proofs.Setting.{SetBy}
 use Rattle.claims.proofs.State.{cameSum, leftSum, underSum, State, still-open, shut}
 use Rattle.claims.proofs.Sums.{over-two}
@@ -155,7 +156,8 @@ stageBy w s k =
     (ratesFor w k s) (waterTo w k) (residueTo w k)
 
 -- entered less handled is what came less what was issued
-weighed-stock : (entered handled store weight came issued formed : ℕ) → entered ≡ store + weight → handled ≡ weight → handled ≡ issued + formed → entered ≡ came + formed → store + issued ≡ came
+weighed-stock : (entered handled store weight came issued formed : ℕ) → entered ≡ store + weight → handled ≡ weight
+    → handled ≡ issued + formed → entered ≡ came + formed → store + issued ≡ came
 weighed-stock entered handled store weight came issued formed p q r s = omega arith
 
 difference : (store issued came : ℕ) → store + issued ≡ came → store ≡ came - issued

@@ -138,7 +138,8 @@ module _ (counted sides store sums : List ℕ) (ms : List Move) (long : length s
   by-move (Gone a k s n) f d t = before-close (Gone a k s n) refl f d t
   by-move Close f d t = shut refl (closes-last ms Close q) (shut-next counted sides sums ms long o)
 
-pub state-next : (counted sides store sums : List ℕ) (ms : List Move) (closed : Bool) (m : Move) → length sums ≡ 576 → closed ≡ false → Fits widest m → Named m → isThere store sums m ≡ true
+pub state-next : (counted sides store sums : List ℕ) (ms : List Move) (closed : Bool) (m : Move) → length sums ≡ 576 → closed ≡ false
+    → Fits widest m → Named m → isThere store sums m ≡ true
     → State counted sides ms sums closed → State counted sides (ms ++ (m ∷ [])) (sumsAfter counted sides sums m) (closes m)
 state-next counted sides store sums ms closed m long is-open f d t (still-open e q o) = by-move counted sides store sums ms long o q m f d t
 state-next counted sides store sums ms closed m long is-open f d t (shut e q o) = absurd (true≢false (sym e ∙ is-open))

@@ -165,7 +165,8 @@ module _ (w : Standing) (b : Book) (z : Year) (s : List ℕ) (blocks : ℕ) (h :
 same-with : (w : Standing) (ps qs : List (List ℕ)) → withPosts (withPosts w ps) qs ≡ withPosts w (ps ++ qs)
 same-with w ps qs = ap (λ (l : List (List ℕ)). record { first = w .first; stages = w .stages; posts = l }) (append-assoc (w .posts) ps qs)
 
-pub tells-many : (w : Standing) (b : Book) (z : Year) (f : ℕ → List ℕ) (n blocks : ℕ) → Tells w b → takenTo (b .setup) (b .year) f n ≡ taken z → Tells (withPosts w (listTo n f)) (bookWith (b .setup) z blocks)
+pub tells-many : (w : Standing) (b : Book) (z : Year) (f : ℕ → List ℕ) (n blocks : ℕ) → Tells w b
+    → takenTo (b .setup) (b .year) f n ≡ taken z → Tells (withPosts w (listTo n f)) (bookWith (b .setup) z blocks)
 unfolding takenTo listTo
 tells-many w b z f zero blocks h e =
     let q : b .year ≡ z = cc in

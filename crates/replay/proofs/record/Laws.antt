@@ -21,7 +21,8 @@ pub full-falls : (before after : ℕ) (p : Part) → p ≡ Full → Falls before
 full-falls before after p e f = subst (Falls before after) e f
 
 -- what is no whole record asks for nothing more
-pub no-call : (from : Input) (given after : List ℕ) (n : Found) → length after ≡ length given → isWhole (n .«record») ≡ false → Within (length given) (n .«record») → Follows from given after n
+pub no-call : (from : Input) (given after : List ℕ) (n : Found) → length after ≡ length given → isWhole (n .«record») ≡ false
+    → Within (length given) (n .«record») → Follows from given after n
 no-call from given after n same e w = record { same-length = same; within = w; falls = λ t. absurd (true≢false (sym t ∙ e)) }
 
 -- the records that may follow: none where it is over

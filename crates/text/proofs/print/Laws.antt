@@ -81,7 +81,8 @@ pub line-fits : (b : Book) (l : List ℕ) (start : ℕ) (m : List ℕ) (at i : �
 line-fits b l start m at i p h = omega (arith, p .lines .next, p .begins, p .free, p .short, p .long)
 
 -- the title and all lines
-pub printed-all : (b : Book) (l0 l : List ℕ) (start : ℕ) (m : List ℕ) (at i : ℕ) → Puts l0 0 title l start → 1336 ≤ length l0 → Printed b l start m at i → b .setup .outline .substances ≤ i
+pub printed-all : (b : Book) (l0 l : List ℕ) (start : ℕ) (m : List ℕ) (at i : ℕ) → Puts l0 0 title l start → 1336 ≤ length l0
+    → Printed b l start m at i → b .setup .outline .substances ≤ i
     → Puts l0 0 (returnText b) m at
 printed-all b l0 l start m at i t h p done =
     let e : i ≡ b .setup .outline .substances = omega (arith, p .had) in

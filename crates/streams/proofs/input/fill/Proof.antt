@@ -39,7 +39,8 @@ free : (k : tie.After-read-behind Inv-loop μ-loop) → done k < room k
 free k = omega (arith, k .read-behind .ensures .same-length, k .before .before .loop-test .taken)
 
 -- a read that brings bytes
-grown : (c : tie.After-known-told Inv-loop μ-loop) → let k = c .before .before .before .before .before .before in (done k < c .before .next .given .0 .0) × (c .before .next .given .0 .0 ≤ room k)
+grown : (c : tie.After-known-told Inv-loop μ-loop)
+    → let k = c .before .before .before .before .before .before in (done k < c .before .next .given .0 .0) × (c .before .next .given .0 .0 ≤ room k)
 grown c =
     let k = c .before .before .before .before .before .before in
     grows (done k) (room k) (free k) (answer k) (c .before .next .given .0 .0) (sym (c .before .next .given .1) ∙ c .before .before .before .after-read .ensures) (moved k)
