@@ -204,7 +204,7 @@ no-stages w u z (is-set f) = absurd (omega (arith, f .some))
 
 -- what stands after a block, by its kind
 stand-one : (w : Standing) (s : List ℕ) → blockKind s ≡ 1 → record { first = s; stages = w .stages; posts = w .posts } ≡ stand w (block s)
-stand-one w s k = rw (ne-eqb (blockKind s) 3 (λ e. omega arith), ne-eqb (blockKind s) 2 (λ e. omega arith))
+stand-one w s k = rw (ne-eqb (blockKind s) 3 (λ e. omega arith), ne-eqb (blockKind s) 2 (λ e. omega arith), eq-eqb (blockKind s) 1 k)
 
 stand-two : (w : Standing) (s : List ℕ) → blockKind s ≡ 2 → record { first = w .first; stages = w .stages ++ (s ∷ []); posts = w .posts } ≡ stand w (block s)
 stand-two w s k = rw (ne-eqb (blockKind s) 3 (λ e. omega arith), eq-eqb (blockKind s) 2 k)

@@ -63,7 +63,7 @@ stand w (post s) = withPosts w (s ∷ [])
 stand w (block s) =
     cond (eqb (blockKind s) 3) (withPosts w (listTo (countOf s) (postIn (bodyOf s))))
     (cond (eqb (blockKind s) 2) (record { first = w .first; stages = w .stages ++ (s ∷ []); posts = w .posts })
-    (record { first = s; stages = w .stages; posts = w .posts }))
+    (cond (eqb (blockKind s) 1) (record { first = s; stages = w .stages; posts = w .posts }) w))
 
 -- after accepted calls
 unfoldable pub stood : Standing → List Call → Standing

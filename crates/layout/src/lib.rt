@@ -1,4 +1,4 @@
-// What a block's frame and the bodies of its kinds say, and posts, their turns and limits, without a book.
+// What a block's frame and the bodies of its kinds say, their turns and limits, without a book.
 pub mod bytes;
 pub mod frame;
 pub mod outline;

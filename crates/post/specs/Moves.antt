@@ -9,6 +9,7 @@ use Rattle.amounts.specs.Coefficient.{rowOf}
 use Rattle.amounts.specs.Decline.{Answer, taken, declined, check, checked, onTaken, valueOr, layout, range}
 use Rattle.amounts.specs.Form.{unusedRanges, inRanges}
 use Rattle.amounts.specs.Loss.{lossOver}
+use Rattle.layout.specs.Posts.{postSize}
 use Rattle.layout.specs.declared.outline.Outline.{Outline}
 use Rattle.post.specs.Fields.{postAt}
 use Rattle.post.specs.Kind.{Row, fieldsFit, kindOf}
@@ -51,7 +52,7 @@ moveIn k numbers p = onTaken (measured (k .measure) numbers p) (λ n. taken (mov
 unfoldable pub laidOut : Outline → List ℕ → Answer Row
 unfolding checked kindOf
 laidOut o s =
-    onTaken (checked (check (eqb (length s) 48) layout ∷ []) (postAt s)) (λ p.
+    onTaken (checked (check (eqb (length s) postSize) layout ∷ []) (postAt s)) (λ p.
     onTaken (kindOf (p .kind)) (λ k. checked (check (fieldsFit (k .limits o) p) layout ∷ []) k))
 
 -- 6 to 9: what the bytes of a post move

@@ -20,6 +20,7 @@ use amounts::loss;
 use amounts::loss::Loss;
 use amounts::pattern;
 use layout::outline::Outline;
+use layout::posts::POST_SIZE;
 
 // Received into a store; issued from a store to a stage's holdings; brought to an account from outside; gone from a holding to an
 // account; the close. Grams of a material, micrograms of a substance.
@@ -136,7 +137,7 @@ fn move_of(does: Does, p: Post, n: u64) -> Move
 pub fn read_move(o: Outline, numbers: &[u16], s: &[u8]) -> MoveRead
     ensures { λ r. ⌜ answer r ≡ moveAt o (now (numbers .entry)) (now (s .entry)) ⌝ }
 {
-    if s.len() != 48 {
+    if s.len() != POST_SIZE {
         return MoveRead::Declined(decline::LAYOUT);
     }
     let p = fields::decode(s);
