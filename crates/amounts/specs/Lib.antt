@@ -10,4 +10,3 @@ pub mod Coefficient
 pub mod Form
 pub mod Whole
 pub mod Loss
-pub mod Figures

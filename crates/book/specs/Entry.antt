@@ -1,5 +1,5 @@
 -- What a move does to a year (document 01, "Posts", "Treatment and report", and decline 11), by its cases.
-use Prim.Native.Nat.{ℕ, _+_, _-_, _≤_}
+use Prim.Native.Nat.{ℕ, _+_, _-_}
 use mathlib.Core.Bool.{Bool, true, false, cond}
 use mathlib.Core.List.{List}
 use lib.Dec.{eqb, leb}

@@ -1,7 +1,7 @@
 -- The fresh book, what a book holds of a substance, and what is true of every book.
 use Prim.Native.Nat.{ℕ, _+_, _*_, _^_, _≤_, _<_}
 use mathlib.Core.Path.{_≡_}
-use mathlib.Core.Bool.{true, false}
+use mathlib.Core.Bool.{false}
 use mathlib.Core.List.{List}
 use lib.ListN.{length, getD, replicate}
 use Rattle.layout.specs.Each.{sumTo}

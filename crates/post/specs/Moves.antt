@@ -1,12 +1,12 @@
 -- What a post does, as one value (document 01, "Posts" and "Why a call is declined, in checking order", 6 to 9).
 use Prim.Native.Nat.{ℕ, _*_, _≤_, _<_}
-use mathlib.Core.Bool.{Bool, _&&_}
+use mathlib.Core.Bool.{Bool}
 use mathlib.Core.List.{List, [], _∷_}
 use lib.Dec.{eqb}
 use lib.ListN.{length, getD}
 use Rattle.amounts.specs.Binary64.{valueOf}
 use Rattle.amounts.specs.Coefficient.{rowOf}
-use Rattle.amounts.specs.Decline.{Answer, taken, declined, check, checked, onTaken, layout, range}
+use Rattle.amounts.specs.Decline.{Answer, taken, declined, check, checked, onTaken, valueOr, layout, range}
 use Rattle.amounts.specs.Form.{unusedRanges, inRanges}
 use Rattle.amounts.specs.Loss.{lossOver}
 use Rattle.layout.specs.declared.outline.Outline.{Outline}
@@ -58,6 +58,10 @@ laidOut o s =
 unfoldable pub moveAt : Outline → List ℕ → List ℕ → Answer Move
 unfolding laidOut measured
 moveAt o numbers s = onTaken (laidOut o s) (λ k. moveIn k numbers (postAt s))
+
+-- the move that the bytes of an accepted post say, whatever the outline; bytes that say none were declined
+abbrev pub said : List ℕ → List ℕ → Move
+said numbers s = valueOr Close (onTaken (kindOf (postAt s .kind)) (λ k. moveIn k numbers (postAt s)))
 
 -- what each case of the code's answer stands for
 abbrev pub answer : MoveRead → Answer Move

@@ -2,12 +2,12 @@
 use mathlib.Core.Path.{_≡_, refl, sym, ap, subst, _∙_}
 use mathlib.Core.Bool.{Bool, true, false, cond}
 use mathlib.Core.List.{List}
-use Prim.Native.Nat.{ℕ, _+_, _≤_, _<_}
+use Prim.Native.Nat.{ℕ, _+_, _<_}
 use native.Mathlib.Omega.{arith}
 use borrow.Author.Tests.{eqb-true, eq-eqb, ne-eqb}
 use lib.Dec.{eqb}
 use lib.ListN.{getD}
-use Rattle.amounts.specs.Decline.{Answer, taken, declined, checked, onTaken}
+use Rattle.amounts.specs.Decline.{taken, declined, checked}
 use Rattle.amounts.proofs.decline.Laws.{was-taken}
 use Rattle.layout.specs.Frame.{blockKind, countOf, bodyOf, frameChecks}
 use Rattle.layout.specs.Posts.{postIn}
@@ -15,11 +15,13 @@ use Rattle.layout.specs.Setup.{setupOf}
 use Rattle.layout.specs.declared.setup.Setup.{Setup}
 use Rattle.layout.proofs.frame.Laws.{Framed, framed, number-small}
 use Rattle.layout.proofs.posts.Laws.{Owned}
+use Rattle.book.specs.Answer.{outcome}
 use Rattle.book.specs.Block.{setupBy, onSetup, onYear, byKind, blockOn}
 use Rattle.book.specs.Posts.{takenTo, postsOn}
 use Rattle.book.specs.Setup.{setUpOn}
 use Rattle.book.specs.Site.{Sound, SoundSetup, SoundYear, bookWith}
 use Rattle.book.specs.Stage.{withStage, describedOn}
+use Rattle.book.specs.declared.answer.Answered.{Answered}
 use Rattle.book.specs.declared.site.Book.{Book}
 use Rattle.book.specs.declared.site.Year.{Year}
 use Rattle.book.proofs.posts.Laws.{many-sound, posts-taken}
@@ -40,6 +42,11 @@ module _ (b : Book) (s : List ℕ) where
 
   pub by-posts : blockKind s ≡ 3 → byKind b s ≡ onYear b (postsOn (b .setup) (b .year) (countOf s) (bodyOf s))
   by-posts k = rw (eq-eqb (blockKind s) 3 k)
+
+  -- a block of posts answers as they do
+  pub as-posts : {r : Answered} → checked (frameChecks (b .blocks) s) s ≡ taken s → blockKind s ≡ 3
+      → r ≡ outcome b (onYear b (postsOn (b .setup) (b .year) (countOf s) (bodyOf s))) → r ≡ outcome b (blockOn b s)
+  as-posts f k e = e ∙ ap (outcome b) (sym (is-framed f ∙ by-posts k))
 
   pub by-setup : (blockKind s ≡ 3 → ⊥) → byKind b s ≡ onSetup b (setupBy (b .setup) (blockKind s) (countOf s) (bodyOf s))
   by-setup k = rw (ne-eqb (blockKind s) 3 k)

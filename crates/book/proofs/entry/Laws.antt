@@ -7,7 +7,7 @@ use native.Mathlib.Decide.{ℕ-discrete}
 use native.Mathlib.Nat.{add-mul, mul-le-mul}
 use native.Mathlib.Omega.{arith}
 use borrow.Author.Tests.{leb-true, ltb-true, eq-eqb, ne-eqb}
-use lib.Dec.{eqb, leb}
+use lib.Dec.{eqb}
 use lib.ListN.{length, getD, set, length-set}
 use lib.Seq.{getD-set-same, getD-set-other}
 use Rattle.layout.specs.Outline.{mayPost}
@@ -19,7 +19,7 @@ use Rattle.post.specs.Moves.{Fits}
 use Rattle.post.specs.declared.moves.Move.{Move}
 use Rattle.post.specs.declared.moves.Move.the-variants.{Received, Issued, Brought, Gone, Close}
 use Rattle.book.specs.Entry.{isThere, storeAfter, sumsAfter, handledAfter, closes, yearAfter, enters, handles}
-use Rattle.book.specs.Ledger.{cellOf, cell, total, added, moved, raised, brings, settled}
+use Rattle.book.specs.Ledger.{cellOf, cell, total, added, brings}
 use Rattle.book.specs.Posts.{hasRoom}
 use Rattle.book.specs.Site.{SoundSetup, SoundYear, storedTo, inYear}
 use Rattle.book.specs.Steps.{widest, Room, Entered}

@@ -16,18 +16,21 @@ use Rattle.amounts.proofs.decline.Laws.{was-taken}
 use Rattle.layout.specs.Outline.{mayPost}
 use Rattle.layout.specs.Posts.{partOf, postIn, ownChecks}
 use Rattle.layout.specs.Verdict.{verdictOf}
+use Rattle.layout.specs.declared.outline.Outline.{Outline}
 use Rattle.layout.specs.declared.setup.Setup.{Setup}
 use Rattle.layout.specs.declared.verdict.Verdict.{Verdict}
 use Rattle.layout.specs.declared.verdict.Verdict.the-variants.{Accepted, Declined}
 use Rattle.layout.proofs.Checked.{passed}
 use Rattle.layout.proofs.posts.Laws.{Owned, owned}
-use Rattle.post.specs.Moves.{moveAt, Fits}
+use Rattle.post.specs.Moves.{moveAt}
 use Rattle.post.specs.declared.moves.Move.{Move}
 use Rattle.post.proofs.moves.Laws.{move-fits}
+use Rattle.book.specs.Answer.{outcome}
 use Rattle.book.specs.Entry.{isThere, storeAfter, sumsAfter, handledAfter, closes, yearAfter}
 use Rattle.book.specs.Posts.{turnChecks, hasRoom, roomChecks, entered, postOn, takenTo, postsOn, singleOn}
 use Rattle.book.specs.Site.{Sound, SoundSetup, SoundYear, bookWith}
 use Rattle.book.specs.Steps.{Room, Entered, admitted, guarded, yearWith, Ran}
+use Rattle.book.specs.declared.answer.Answered.{Answered}
 use Rattle.book.specs.declared.site.Book.{Book}
 use Rattle.book.specs.declared.site.Year.{Year}
 use Rattle.book.proofs.entry.Laws.{Step, stepped, room-of}
@@ -153,8 +156,12 @@ many-sound u y z posts (suc n) su h e =
 
 -- ---- parts of the bytes
 
-pub part-at : (size i : ℕ) (s : List ℕ) → take (i * size + size - i * size) (drop (i * size) s) ≡ partOf size s i
+part-at : (size i : ℕ) (s : List ℕ) → take (i * size + size - i * size) (drop (i * size) s) ≡ partOf size s i
 part-at size i s = let e : i * size + size - i * size ≡ size = omega arith in ap (λ (n : ℕ). take n (drop (i * size) s)) e
+
+pub admitted-at : (o : Outline) (numbers : List ℕ) (closed : Bool) (posts size i : ℕ) (s : List ℕ) {x : Answer Move}
+    → x ≡ admitted o numbers closed posts (take (i * size + size - i * size) (drop (i * size) s)) → x ≡ admitted o numbers closed posts (partOf size s i)
+admitted-at o numbers closed posts size i s e = e ∙ ap (admitted o numbers closed posts) (part-at size i s)
 
 pub part-fits : (size i n long : ℕ) → i < n → n * size ≤ long → i * size + size ≤ long
 part-fits size i n long h g =
@@ -259,9 +266,13 @@ ran-was-taken (taken z) v y r e = ap taken (sym (r .left z refl))
 ran-was-taken (declined n) v y r e = let f = r .told in let q : _≡_ {A = ℕ} 0 1 = cc in absurd (omega arith)
 
 -- the book with what a run left
-pub ran-book : (a : Answer Year) (v : Verdict) (y : Year) (u : Setup) (n : ℕ) → Ran a v y → guarded v (bookWith u y n) ≡ onTaken a (λ z. taken (bookWith u z n))
+ran-book : (a : Answer Year) (v : Verdict) (y : Year) (u : Setup) (n : ℕ) → Ran a v y → guarded v (bookWith u y n) ≡ onTaken a (λ z. taken (bookWith u z n))
 ran-book (taken z) v y u n r = rw (r .told, r .left z refl)
 ran-book (declined d) v y u n r = rw (r .told)
+
+pub ran-outcome : (b : Book) (n : ℕ) (a : Answer Year) (v : Verdict) (y : Year) {r : Answered} → Ran a v y → r ≡ outcome b (guarded v (bookWith (b .setup) y n))
+    → r ≡ outcome b (onTaken a (λ z. taken (bookWith (b .setup) z n)))
+ran-outcome b n a v y w e = e ∙ ap (outcome b) (ran-book a v y (b .setup) n w)
 
 -- ---- single posts and blocks of them
 

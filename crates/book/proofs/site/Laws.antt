@@ -1,7 +1,7 @@
 -- What keeps a book sound. Assumes nothing.
 use mathlib.Core.Path.{_≡_, refl, sym, _∙_}
 use mathlib.Core.List.{List}
-use Prim.Native.Nat.{ℕ, zero, suc, _+_, _*_, _≤_, _<_}
+use Prim.Native.Nat.{ℕ, zero, suc, _+_, _*_, _<_}
 use native.Mathlib.Nat.{zero-mul}
 use native.Mathlib.Omega.{arith}
 use lib.ListN.{getD, replicate, length-replicate}
@@ -10,7 +10,7 @@ use Rattle.layout.specs.Setup.{noRates}
 use Rattle.layout.specs.declared.setup.Setup.{Setup}
 use Rattle.layout.proofs.Each.{sum-none}
 use Rattle.book.specs.Ledger.{total, cellOf}
-use Rattle.book.specs.Site.{Sound, SoundSetup, SoundYear, Rated, freshBook, storedTo}
+use Rattle.book.specs.Site.{Sound, SoundYear, Rated, freshBook, storedTo}
 use Rattle.book.specs.declared.site.Year.{Year}
 
 -- each place of a list of one value has it

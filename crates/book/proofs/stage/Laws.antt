@@ -1,5 +1,5 @@
 -- Filling the pairs of a stage, and what a stage block that is taken leaves. Assumes nothing.
-use mathlib.Core.Path.{_≡_, refl, sym, ap, _∙_}
+use mathlib.Core.Path.{_≡_, refl, ap, _∙_}
 use mathlib.Core.Bool.{Bool, true, false, not, _&&_}
 use mathlib.Core.List.{List}
 use Prim.Native.Nat.{ℕ, _+_, _*_, _≤_, _<_}
@@ -18,7 +18,7 @@ use Rattle.layout.specs.declared.setup.Setup.{Setup}
 use Rattle.layout.proofs.Checked.{passed}
 use Rattle.layout.proofs.Each.{and-true, all-at, length-put, put-keeps, put-again}
 use Rattle.book.specs.Site.{SoundSetup, Rated}
-use Rattle.book.specs.Stage.{withPairs, withStage, describedOn}
+use Rattle.book.specs.Stage.{withPairs, withStage}
 
 -- ---- the pairs
 

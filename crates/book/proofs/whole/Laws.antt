@@ -9,20 +9,20 @@ use borrow.Author.Tests.{eq-eqb, ne-eqb}
 use native.Mathlib.Decide.{ℕ-discrete, decLe}
 use lib.ListN.{length, getD, take, drop, length-drop, drop-of-length-le}
 use lib.Seq.{take-all, drop-drop}
-use Rattle.amounts.specs.Decline.{Answer, taken, declined, checked, onTaken}
+use Rattle.amounts.specs.Decline.{Answer, taken, declined, checked}
 use Rattle.amounts.specs.declared.decline.Decline.{Decline}
 use Rattle.layout.specs.Frame.{blockKind, countOf, bodyOf, frameChecks}
 use Rattle.layout.specs.declared.setup.Setup.{Setup}
 use Rattle.layout.specs.declared.verdict.Verdict.{Verdict}
 use Rattle.layout.specs.declared.verdict.Verdict.the-variants.{Accepted, Declined}
-use Rattle.book.specs.Block.{setupBy, onSetup, onYear, byKind, blockOn}
+use Rattle.book.specs.Block.{setupBy, onSetup, onYear, blockOn}
 use Rattle.book.specs.Posts.{postsOn}
-use Rattle.book.specs.Site.{Sound, SoundYear, bookWith, freshBook}
+use Rattle.book.specs.Site.{Sound, bookWith, freshBook}
 use Rattle.book.specs.Steps.{guarded, Ran}
-use Rattle.book.specs.Whole.{partsTo, partsIn, Outcome, read, refused, onward, readAll}
+use Rattle.book.specs.Whole.{partsTo, partsIn, read, refused, onward, readAll}
 use Rattle.book.specs.declared.site.Book.{Book}
 use Rattle.book.specs.declared.site.Year.{Year}
-use Rattle.book.proofs.block.Laws.{not-framed, is-framed, by-posts, by-setup, block-more, block-sound}
+use Rattle.book.proofs.block.Laws.{is-framed, by-posts, by-setup, block-more, block-sound}
 use Rattle.book.proofs.posts.Laws.{ran-was-taken, ran-was-declined}
 
 -- ---- parts

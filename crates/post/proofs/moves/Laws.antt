@@ -2,16 +2,16 @@
 use mathlib.Core.Path.{_≡_, refl, sym, ap, subst, _∙_}
 use mathlib.Core.Bool.{Bool, true, false}
 use mathlib.Core.List.{List, [], _∷_}
-use Prim.Native.Nat.{ℕ, _*_, _≤_, _<_}
+use Prim.Native.Nat.{ℕ, _*_, _≤_}
 use native.Mathlib.Omega.{arith}
-use borrow.Author.Tests.{eqb-true, eq-eqb, ne-eqb}
+use borrow.Author.Tests.{eq-eqb, ne-eqb}
 use lib.Dec.{eqb}
 use lib.ListN.{length}
-use Rattle.amounts.specs.Binary64.{valueOf}
 use Rattle.amounts.specs.Decline.{Answer, taken, declined, check, checked, onTaken, layout, range}
-use Rattle.amounts.proofs.decline.Laws.{one-taken, was-taken}
+use Rattle.amounts.proofs.decline.Laws.{was-taken}
 use Rattle.amounts.proofs.loss.Laws.{over-bounded}
 use Rattle.layout.specs.declared.outline.Outline.{Outline}
+use Rattle.layout.proofs.Checked.{passed}
 use Rattle.post.specs.Fields.{postAt}
 use Rattle.post.specs.Kind.{Row, fieldsFit, kindOf, kindAt, limited}
 use Rattle.post.specs.Moves.{floatsUnused, measured, moveOf, moveIn, laidOut, moveAt, Fits}
@@ -19,7 +19,6 @@ use Rattle.post.specs.declared.fields.Post.{Post}
 use Rattle.post.specs.declared.kind.Does.{Does}
 use Rattle.post.specs.declared.kind.Does.the-variants.{Receives, Issues, Brings, Leaves, Closes}
 use Rattle.post.specs.declared.kind.Kind.{Kind}
-use Rattle.post.specs.declared.kind.Limits.{Limits}
 use Rattle.post.specs.declared.kind.Measure.{Measure}
 use Rattle.post.specs.declared.kind.Measure.the-variants.{Quantity, Content, Loss}
 use Rattle.post.specs.declared.kind.Span.{Span}
@@ -78,7 +77,7 @@ refused-row o n m e = go (kindOf n) refl e
 
 -- the amount of a quantity or a content is what was stated
 stated-amount : (t : Bool) (n m : ℕ) → checked (check t range ∷ []) n ≡ taken m → m ≡ n
-stated-amount t n m e = one-taken t range n m (sym e) .1
+stated-amount t n m e = passed (check t range ∷ []) n m e .1
 
 module _ (o : Outline) (numbers : List ℕ) (p : Post) (r : Row) (n : ℕ) (told : measured (r .measure) numbers p ≡ taken n) (u : Under (r .limits o) p) where
   grams-of : (m : Measure) → measured m numbers p ≡ taken n → Stocks m (r .limits o) → n ≤ 2000000000
@@ -110,11 +109,11 @@ move-fits o numbers s m e =
     let a = was-taken (laidOut o s) (λ k. moveIn k numbers p) m e in
     let r = a .0 in
     let b = was-taken (checked (check (eqb (length s) 48) layout ∷ []) p) (λ q. onTaken (kindOf (q .kind)) (λ k. checked (check (fieldsFit (k .limits o) q) layout ∷ []) k)) r (a .1) in
-    let same : b .0 ≡ p = one-taken (eqb (length s) 48) layout p (b .0) (sym (b .1)) .1 in
+    let same : b .0 ≡ p = passed (check (eqb (length s) 48) layout ∷ []) p (b .0) (b .1) .1 in
     let c = was-taken (kindOf (b .0 .kind)) (λ k. checked (check (fieldsFit (k .limits o) (b .0)) layout ∷ []) k) r (b .2) in
-    let d = one-taken (fieldsFit (c .0 .limits o) (b .0)) layout (c .0) r (sym (c .2)) in
+    let d = passed (check (fieldsFit (c .0 .limits o) (b .0)) layout ∷ []) (c .0) r (c .2) in
     let row : kindOf (p .kind) ≡ taken r = ap (λ (q : Post). kindOf (q .kind)) (sym same) ∙ c .1 ∙ ap taken (sym (d .1)) in
-    let fit : fieldsFit (r .limits o) p ≡ true = ap (λ (q : Post). fieldsFit (r .limits o) q) (sym same) ∙ ap (λ (k : Row). fieldsFit (k .limits o) (b .0)) (d .1) ∙ d .0 in
+    let fit : fieldsFit (r .limits o) p ≡ true = ap (λ (q : Post). fieldsFit (r .limits o) q) (sym same) ∙ ap (λ (k : Row). fieldsFit (k .limits o) (b .0)) (d .1) ∙ d .0 .0 in
     let f = was-taken (measured (r .measure) numbers p) (λ n. taken (moveOf (r .does) p n)) m (a .2) in
     let is : moveOf (r .does) p (f .0) ≡ m = cc in
     subst (Fits o) is (fits-by o numbers p r (f .0) (f .1) (under (r .limits o) p fit) (r .does) (well o (p .kind) r row))

@@ -12,7 +12,7 @@ use Rattle.book.specs.Block.{onSetup, blockOn}
 use Rattle.book.specs.Site.{Sound}
 use Rattle.book.specs.declared.answer.Answered.{Answered}
 use Rattle.book.proofs.answer.Laws.{table-declined, table-accepted, sound-after}
-use Rattle.book.proofs.block.Laws.{not-framed, is-framed, by-posts, by-setup, block-sound}
+use Rattle.book.proofs.block.Laws.{not-framed, is-framed, as-posts, by-setup, block-sound}
 use borrow.Author.Needs.{needs}
 use Rattle.book.proofs.block.take_block.Statement.{statement}
 use Rattle.book.proofs.block.take_block.Tie as tie
@@ -85,7 +85,7 @@ returns-2 c =
     let s = start k in
     let b = s .args .b in
     let bytes = now (s .args .s) in
-    let e = c .take-posts .ensures ∙ ap (outcome b) (sym (is-framed b bytes (passes k .1) ∙ by-posts b bytes (c .before .if1 .taken))) in
+    let e = as-posts b bytes (passes k .1) (c .before .if1 .taken) (c .take-posts .ensures) in
     (e, sound-by (k .before .before) e)
 
 set-up-by-requires : tie.Need-set-up-by-requires

@@ -1,12 +1,11 @@
 -- Each arm of the match is a case of the move.
-use mathlib.Core.Path.{_≡_, refl, sym, ap, subst}
-use mathlib.Core.Bool.{true, false}
+use mathlib.Core.Path.{refl, subst}
 use native.Mathlib.Omega.{arith}
 use borrow.Author.Tests.{le-leb, lt-leb}
 use denote.Ref.{now}
 use Rattle.post.specs.declared.moves.Move.{Move}
-use Rattle.post.specs.declared.moves.Move.the-variants.{Received, Issued, Brought, Gone, Close}
-use Rattle.book.specs.Steps.{Room, Entered}
+use Rattle.post.specs.declared.moves.Move.the-variants.{Received, Issued, Brought, Gone}
+use Rattle.book.specs.Steps.{Room}
 use Rattle.book.proofs.entry.Laws.{room-issued, room-brought, room-gone, room-close, left-out, put-in}
 use borrow.Author.Needs.{needs}
 use Rattle.book.proofs.entry.enter.Statement.{statement}

@@ -1,3 +1,4 @@
+use mathlib.Core.Path.{refl}
 use borrow.Author.Needs.{needs}
 use Rattle.book.proofs.posts.has_room.Statement.{statement}
 use Rattle.book.proofs.posts.has_room.Tie as tie
@@ -6,10 +7,10 @@ closes-requires : tie.Need-closes-requires
 closes-requires c κs = search needs
 
 returns : tie.Need-returns
-returns c = rw (← c .before .closes .ensures, c .if1 .taken)
+returns c = rw (← c .before .closes .ensures, c .if1 .taken) refl
 
 returns-2 : tie.Need-returns-2
-returns-2 c = rw (← c .before .closes .ensures, c .if1 .left)
+returns-2 c = rw (← c .before .closes .ensures, c .if1 .left) refl
 
 pub has-room-spec : {M : Type 1} → statement M
 has-room-spec = tie.close (tie.spec closes-requires returns returns-2)

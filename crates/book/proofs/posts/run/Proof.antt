@@ -10,10 +10,11 @@ use Rattle.layout.specs.Posts.{partOf}
 use Rattle.layout.proofs.verdict.Laws.{misses}
 use Rattle.post.specs.Moves as moves
 use Rattle.post.specs.declared.moves.Move.{Move}
+use Rattle.book.specs.Entry.{isThere}
 use Rattle.book.specs.Posts.{takenTo}
-use Rattle.book.specs.Steps.{admitted, yearWith}
+use Rattle.book.specs.Steps.{yearWith}
 use Rattle.book.specs.declared.site.Year.{Year}
-use Rattle.book.proofs.posts.Laws.{Turn, tried, turn-declined, turn-short, turn-room, turn-few, turn-entered, none-yet, part-at, part-fits, ran-declined, ran-taken}
+use Rattle.book.proofs.posts.Laws.{Turn, tried, turn-declined, turn-short, turn-room, turn-few, turn-entered, none-yet, admitted-at, part-fits, ran-declined, ran-taken}
 use borrow.Author.Needs.{needs}
 use Rattle.book.proofs.posts.run.Statement.{statement}
 use Rattle.book.proofs.posts.run.Tie as tie
@@ -62,7 +63,7 @@ was-tried : (c : tie.After-admit Inv-loop μ-loop) → moves.answer (c .admit .r
 was-tried c =
     let a = start (inside c .before) .args in
     let k = inside c .before .loop in
-    c .admit .ensures ∙ ap (admitted (a .setup .outline) (a .setup .numbers) (k .ended) (k .count)) (part-at (a .size) (k .i) (now (a .s)))
+    admitted-at (a .setup .outline) (a .setup .numbers) (k .ended) (k .count) (a .size) (k .i) (now (a .s)) (c .admit .ensures)
 
 -- the post that is admitted
 abbrev at : tie.After-known-told2 Inv-loop μ-loop → tie.After-admit Inv-loop μ-loop
@@ -122,8 +123,9 @@ returns-2 : tie.Need-returns-2 Inv-loop μ-loop
 returns-2 c =
     let e = c .before in
     let k = known e in
+    let l = inside (at k) .before .loop in
     ran-declined _ 11 _
-    (turn-short (turn (at k)) _ (omega (arith, inside (at k) .loop-test)) _ (was-known k) (misses (e .enter .ensures .there) (c .if1 .taken)))
+    (turn-short (turn (at k)) _ (omega (arith, inside (at k) .loop-test)) _ (was-known k) (misses {t = isThere (l .store) (l .sums) (move k)} (e .enter .ensures .there) (c .if1 .taken)))
 
 add-count : tie.Need-add-count Inv-loop μ-loop
 add-count c = let k = known (c .before) in omega (arith, turn-few (turn (at k)) _ (was-known k))

@@ -19,6 +19,10 @@ given s = let a = s .args in yearWith (now (a .store)) (now (a .sums)) (now (a .
 abbrev rows : tie.Start → List Check
 rows s = ownChecks (s .args .setup .outline) (s .args .closed) (s .args .count) (now (s .args .body))
 
+-- the year that the run leaves
+abbrev left : tie.After-run → Year
+left r = let l = r .run .last .1 in yearWith (l .0) (l .1 .0) (l .1 .1 .0) (r .run .result .posts) (r .run .result .closed)
+
 abbrev start : tie.After-enum-told → tie.Start
 start c = c .before .before .before .before
 
@@ -58,7 +62,7 @@ returns-2 : tie.Need-returns-2
 returns-2 c =
     let k = c .before .before .before .before in
     let s = start k in
-    ran-same _ _ (sym (own-taken (s .args .setup) (given s) (s .args .count) (now (s .args .body)) (passes k .1))) (c .run .ensures)
+    ran-same (c .run .result .verdict) (left c) (sym (own-taken (s .args .setup) (given s) (s .args .count) (now (s .args .body)) (passes k .1))) (c .run .ensures)
 
 pub run-body-spec : {M : Type 1} → statement M
 run-body-spec =

@@ -11,7 +11,7 @@ use Rattle.layout.specs.declared.setup.Setup.{Setup}
 use Rattle.layout.proofs.frame.Laws.{Framed, framed, number-small}
 use Rattle.book.specs.Site.{Sound, bookWith, freshYear}
 use Rattle.book.specs.Steps.{yearWith}
-use Rattle.book.specs.Whole.{Outcome, ended}
+use Rattle.book.specs.Whole.{ended}
 use Rattle.book.specs.declared.site.Book.{Book}
 use Rattle.book.specs.declared.site.Year.{Year}
 use Rattle.book.specs.declared.whole.WholeRead.{WholeRead}
@@ -73,6 +73,10 @@ small c i = c .shared-slice-known2 .given i .fits
 
 abbrev opened : tie.After-body Inv-loop μ-loop → tie.After-shared-slice-known2 Inv-loop μ-loop
 opened c = c .before .before
+
+-- the year that a block of posts leaves
+abbrev left : tie.After-run-body Inv-loop μ-loop → Year
+left r = let l = r .run-body .last .1 in yearWith (l .0) (l .1 .0) (l .1 .1 .0) (r .run-body .result .posts) (r .run-body .result .closed)
 
 -- a number of 16 bits
 few : (c : tie.After-body Inv-loop μ-loop) → let k = at (ending (frame (opened c .before))) .loop in k .blocks < 65536
@@ -153,7 +157,7 @@ returns-2 c =
     let l = at e in
     let s = now (start l .args .journal) in
     let d = c .before .before .v .given .0 .0 in
-    let no = posts-refused (l .loop .setup) (year l) (l .loop .blocks) (bytes e) (passes t .1) _ d _ (i .if1 .taken) (r .run-body .ensures) (c .before .before .v .given .1) in
+    let no = posts-refused (l .loop .setup) (year l) (l .loop .blocks) (bytes e) (passes t .1) (r .run-body .result .verdict) d (left r) (i .if1 .taken) (r .run-body .ensures) (c .before .before .v .given .1) in
     (c .refused-at2 .ensures .0 ∙ ap ended (upto-stop s (l .loop .at) (e .part-end .result) (inside e) (e .part-end .ensures) (book l) (d .number) (l .loop .inv) no), c .refused-at2 .ensures .1)
 
 enum-told-2 : tie.Need-enum-told-2 Inv-loop μ-loop
@@ -178,7 +182,7 @@ loop-again c =
     let l = at e in
     let s = now (start l .args .journal) in
     upto-next s (l .loop .at) (e .part-end .result) (inside e) (e .part-end .ensures) (book l) _ (small o) (l .loop .inv)
-    (posts-entered (l .loop .setup) (year l) (l .loop .blocks) (bytes e) (passes t .1) _ _ (i .if1 .taken) (r .run-body .ensures) (c .enum-told2 .given .1))
+    (posts-entered (l .loop .setup) (year l) (l .loop .blocks) (bytes e) (passes t .1) (r .run-body .result .verdict) (left r) (i .if1 .taken) (r .run-body .ensures) (c .enum-told2 .given .1))
 
 set-up-by-requires : tie.Need-set-up-by-requires Inv-loop μ-loop
 set-up-by-requires c κs = let l = at (ending (frame (opened (c .before) .before))) in l .loop .inv .sound .setup
@@ -198,7 +202,7 @@ returns-3 c =
     let l = at e in
     let s = now (start l .args .journal) in
     let d = c .before .before .v2 .given .0 .0 in
-    let no = setup-refused (l .loop .setup) (year l) (l .loop .blocks) (bytes e) (passes t .1) _ d _ (i .if1 .left) (r .set-up-by .ensures) (c .before .before .v2 .given .1) in
+    let no = setup-refused (l .loop .setup) (year l) (l .loop .blocks) (bytes e) (passes t .1) (r .set-up-by .result .verdict) d (r .set-up-by .result .setup) (i .if1 .left) (r .set-up-by .ensures) (c .before .before .v2 .given .1) in
     (c .refused-at3 .ensures .0 ∙ ap ended (upto-stop s (l .loop .at) (e .part-end .result) (inside e) (e .part-end .ensures) (book l) (d .number) (l .loop .inv) no), c .refused-at3 .ensures .1)
 
 enum-told-3 : tie.Need-enum-told-3 Inv-loop μ-loop
@@ -223,7 +227,7 @@ loop-again-2 c =
     let l = at e in
     let s = now (start l .args .journal) in
     upto-next s (l .loop .at) (e .part-end .result) (inside e) (e .part-end .ensures) (book l) _ (small o) (l .loop .inv)
-    (setup-entered (l .loop .setup) (year l) (l .loop .blocks) (bytes e) (passes t .1) _ _ (i .if1 .left) (r .set-up-by .ensures) (c .before .enum-told3 .given .1))
+    (setup-entered (l .loop .setup) (year l) (l .loop .blocks) (bytes e) (passes t .1) (r .set-up-by .result .verdict) (r .set-up-by .result .setup) (i .if1 .left) (r .set-up-by .ensures) (c .before .enum-told3 .given .1))
 
 read-to-requires : tie.Need-read-to-requires Inv-loop μ-loop
 read-to-requires c κs = search needs

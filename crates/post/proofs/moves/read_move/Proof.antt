@@ -1,6 +1,6 @@
 -- The row that the code has is the definition's, and each check is the definition's next.
 use mathlib.Core.Path.{_≡_, sym, ap, _∙_}
-use mathlib.Core.Bool.{true, false}
+use mathlib.Core.Bool.{true}
 use native.Mathlib.Omega.{arith}
 use borrow.Author.Needs.{needs}
 use denote.Ref.{now}
@@ -63,7 +63,6 @@ kind-of-requires c κs = search needs
 enum-known-k : tie.Need-enum-known-k
 enum-known-k c = search needs
 
--- /work/g/target/rlib/amounts.rlib/interface/lang/src/decline.rt:7:30
 enum-told : tie.Need-enum-told
 enum-told c = search needs
 

@@ -1,0 +1,269 @@
+-- What a book's report shows is what stands. Assumes nothing.
+use mathlib.Core.Path.{_≡_, refl, sym, ap, ap₂, subst, _∙_}
+use mathlib.Core.Bool.{Bool, true, false, cond}
+use mathlib.Core.List.{List, [], _∷_}
+use Prim.Native.Nat.{ℕ, _+_, _-_, _*_, _≤_, _<_}
+use native.Mathlib.Omega.{arith}
+use borrow.Author.Tests.{ne-eqb}
+use lib.Dec.{eqb}
+use lib.ListN.{getD}
+use Rattle.amounts.specs.Decline.{valueOr}
+use Rattle.amounts.specs.Filed.{filedOf}
+use Rattle.amounts.specs.Threshold.{dueOf}
+use Rattle.layout.specs.Each.{sumTo}
+use Rattle.layout.specs.declared.setup.Rates.{Rates}
+use Rattle.layout.specs.declared.setup.Setup.{Setup}
+use Rattle.layout.proofs.Each.{sum-same}
+use Rattle.post.specs.Account.{held, shipped, offSite, landfill, soil, consumed, gas, water, vapour}
+use Rattle.post.specs.declared.moves.Move.{Move}
+use Rattle.post.specs.declared.moves.Move.the-variants.{Received, Issued, Brought, Gone, Close}
+use Rattle.book.specs.Entry.{enters, handles}
+use Rattle.book.specs.Ledger.{cell, closesTo}
+use Rattle.book.specs.Site.{Sound, bookWith}
+use Rattle.book.specs.declared.site.Book.{Book}
+use Rattle.report.specs.Line.{ratesOf, cellsOf, lineFor, stageLine, lineTo, mapHeadings}
+use Rattle.report.specs.Report.{filingOf, reportAt}
+use Rattle.report.specs.declared.line.Line.{Line}
+use Rattle.report.specs.declared.report.Report.{Report}
+use Rattle.report.proofs.report.Laws.{report-handled, report-entered, headings-fit, figures-within}
+use Rattle.claims.specs.Demand as demand
+use Rattle.claims.specs.Demand.{Balanced}
+use Rattle.claims.specs.Standing.{Standing, numbersOf, classesOf, countedIn, movesOf}
+use Rattle.claims.specs.Weighing.{waterTo, residueTo, sideFor, ratesFor, receives, issues, brought, received, issued, store, formed, handledBy, came, left, remains, under, anyCloses, isClosed, heldAt, toGas, toWater, gasTotal, waterTotal, lineOf, reportBy, Weighed}
+use Rattle.claims.proofs.Setting.{SetBy}
+use Rattle.claims.proofs.State.{cameSum, leftSum, underSum, State, still-open, shut}
+use Rattle.claims.proofs.Sums.{over-two}
+use Rattle.claims.proofs.Tells.{Setting, unset, is-set, Tells}
+
+-- ---- in balance
+
+-- the report does not ask for the blocks
+plain-sound : (w : Standing) (b : Book) → Tells w b → Sound (bookWith (b .setup) (b .year) 0)
+plain-sound w b h = record { setup = h .sound .setup; year = h .sound .year; blocks-few = omega arith }
+
+pub balanced : (w : Standing) (b : Book) (s : ℕ) → Tells w b → s < 8 → Balanced w s (reportAt b s)
+balanced w b s h few =
+    let c = bookWith (b .setup) (b .year) 0 in
+    let g = plain-sound w b h in
+    let out = sym (h .handled s few) ∙ sym (report-handled c g s few) in
+    record {
+      weighed-in = sym (h .entered s few) ∙ sym (report-entered c g s few);
+      weighed-out = out;
+      shown = h .handled s few;
+      figures = λ e.
+          let x = reportAt c s .line .headings in
+          (mapHeadings filedOf x, ap (λ (t : Bool). filingOf t x) e, figures-within x (headings-fit c g s few));
+      counted = h .count;
+    }
+
+-- ---- what came in
+
+-- a move is received, issued or brought from outside, or neither enters nor is handled
+enters-is : (counted : List ℕ) (s : ℕ) (m : Move) → enters counted s m ≡ receives counted s m + brought s m
+enters-is counted s (Received m g) = omega arith
+enters-is counted s (Issued m k g) = omega arith
+enters-is counted s (Brought a k t n) = omega arith
+enters-is counted s (Gone a k t n) = omega arith
+enters-is counted s Close = omega arith
+
+handles-is : (counted : List ℕ) (s : ℕ) (m : Move) → handles counted s m ≡ issues counted s m + brought s m
+handles-is counted s (Received m g) = omega arith
+handles-is counted s (Issued m k g) = omega arith
+handles-is counted s (Brought a k t n) = omega arith
+handles-is counted s (Gone a k t n) = omega arith
+handles-is counted s Close = omega arith
+
+handled-posts : (w : Standing) (s : ℕ) → demand.handled w s ≡ handledBy w s
+handled-posts w s = over-two (handles (countedIn w) s) (issues (countedIn w) s) (brought s) (movesOf w) (handles-is (countedIn w) s)
+
+entered-posts : (w : Standing) (s : ℕ) → demand.entered w s ≡ received w s + formed w s
+entered-posts w s = over-two (enters (countedIn w) s) (receives (countedIn w) s) (brought s) (movesOf w) (enters-is (countedIn w) s)
+
+-- ---- a stage's sums
+
+-- the close moves to gas, or to waste water
+gas-side : (side n : ℕ) → cond (eqb gas (closesTo side)) n 0 ≡ toGas side n
+unfolding closesTo
+gas-side side n = go (eqb side 2)
+  where
+    go : (t : Bool) → cond (eqb gas (cond t water gas)) n 0 ≡ cond t 0 n
+    go true = refl
+    go false = refl
+
+water-side : (side n : ℕ) → cond (eqb water (closesTo side)) n 0 ≡ toWater side n
+unfolding closesTo
+water-side side n = go (eqb side 2)
+  where
+    go : (t : Bool) → cond (eqb water (cond t water gas)) n 0 ≡ cond t n 0
+    go true = refl
+    go false = refl
+
+-- and to no other account
+no-side : (account side n : ℕ) → (account ≡ gas → ⊥) → (account ≡ water → ⊥) → cond (eqb account (closesTo side)) n 0 ≡ 0
+unfolding closesTo
+no-side account side n d e = go (eqb side 2)
+  where
+    go : (t : Bool) → cond (eqb account (cond t water gas)) n 0 ≡ 0
+    go true = rw (ne-eqb account water e)
+    go false = rw (ne-eqb account gas d)
+
+module _ (counted sides : List ℕ) (ms : List Move) (sums : List ℕ) (closed : Bool) (k s : ℕ) (hk : k < 8) (hs : s < 8) where
+  abbrev rest : ℕ
+  rest = cameSum counted ms k s - leftSum counted ms k s
+
+  abbrev side : ℕ
+  side = getD sides (k * 8 + s) 0
+
+  enough : State counted sides ms sums closed → leftSum counted ms k s ≤ cameSum counted ms k s
+  enough (still-open e q o) = omega (arith, o .kept k s hk hs)
+  enough (shut e q o) = o .enough k s hk hs
+
+  held-by : State counted sides ms sums closed → cell sums held k s ≡ cond (anyCloses ms) 0 rest
+  held-by (still-open e q o) = rw q (omega (arith, o .kept k s hk hs))
+  held-by (shut e q o) = rw q (o .none-held k s hk hs)
+
+  -- an account that the close moves nothing to
+  named-by : State counted sides ms sums closed → (a : ℕ) → 1 ≤ a → a < 9 → (a ≡ gas → ⊥) → (a ≡ water → ⊥) → cell sums a k s ≡ underSum counted ms a k s
+  named-by (still-open e q o) a low high d f = o .gone a k s low high hk hs
+  named-by (shut e q o) a low high d f = omega (arith, o .gone a k s low high hk hs, no-side a side rest d f)
+
+  gas-by : State counted sides ms sums closed → cell sums gas k s ≡ underSum counted ms gas k s + cond (anyCloses ms) (toGas side rest) 0
+  gas-by (still-open e q o) = rw q (omega (arith, o .gone gas k s (omega arith) (omega arith) hk hs))
+  gas-by (shut e q o) = rw q (o .gone gas k s (omega arith) (omega arith) hk hs ∙ ap (λ (n : ℕ). underSum counted ms gas k s + n) (gas-side side rest))
+
+  water-by : State counted sides ms sums closed → cell sums water k s ≡ underSum counted ms water k s + cond (anyCloses ms) (toWater side rest) 0
+  water-by (still-open e q o) = rw q (omega (arith, o .gone water k s (omega arith) (omega arith) hk hs))
+  water-by (shut e q o) = rw q (o .gone water k s (omega arith) (omega arith) hk hs ∙ ap (λ (n : ℕ). underSum counted ms water k s + n) (water-side side rest))
+
+-- ---- the report, part by part
+
+-- a stage's line, by its sums
+abbrev stageBy : Standing → ℕ → ℕ → Line
+stageBy w s k =
+    lineFor
+    (record {
+      held = heldAt w s k;
+      shipped = under shipped w s k;
+      «off_site» = under offSite w s k;
+      landfill = under landfill w s k;
+      soil = under soil w s k;
+      consumed = under consumed w s k;
+      gas = gasTotal w s k;
+      water = waterTotal w s k;
+      vapour = under vapour w s k;
+    })
+    (ratesFor w k s) (waterTo w k) (residueTo w k)
+
+-- entered less handled is what came less what was issued
+weighed-stock : (entered handled store weight came issued formed : ℕ) → entered ≡ store + weight → handled ≡ weight → handled ≡ issued + formed → entered ≡ came + formed → store + issued ≡ came
+weighed-stock entered handled store weight came issued formed p q r s = omega arith
+
+difference : (store issued came : ℕ) → store + issued ≡ came → store ≡ came - issued
+difference store issued came e = omega arith
+
+-- a report put together from its parts
+same-report : (posts number handled store posts' number' handled' store' : ℕ) (due due' : Bool) (line line' : Line)
+    → posts ≡ posts' → number ≡ number' → handled ≡ handled' → due ≡ due' → store ≡ store' → line ≡ line'
+    → _≡_ {A = Report} (record { posts = posts; number = number; handled = handled; due = due; store = store; line = line; filed = filingOf due (line .headings) })
+    (record { posts = posts'; number = number'; handled = handled'; due = due'; store = store'; line = line'; filed = filingOf due' (line' .headings) })
+same-report posts number handled store posts' number' handled' store' due due' line line' p q r d s l =
+    rw (p, q, r, d, s) (ap (λ (x : Line). record { posts = posts'; number = number'; handled = handled'; due = due'; store = store'; line = x; filed = filingOf due' (x .headings) }) l)
+
+module _ (w : Standing) (b : Book) (h : Tells w b) (up : SetBy (w .first) (w .stages) (b .setup)) (s : ℕ) (l : s < b .setup .outline .substances) where
+  few : s < 8
+  few = omega (arith, h .sound .setup .substances-few)
+
+  abbrev sums : List ℕ
+  sums = b .year .sums
+
+  abbrev u : Setup
+  u = b .setup
+
+  module _ (k : ℕ) (hk : k < 8) where
+    abbrev told : State (countedIn w) (u .sides) (movesOf w) sums (b .year .closed)
+    told = h .state
+
+    side-is : getD (u .sides) (k * 8 + s) 0 ≡ sideFor w k s
+    side-is = up .sides k s hk l
+
+    held-is : cell sums held k s ≡ heldAt w s k
+    held-is = held-by (countedIn w) (u .sides) (movesOf w) sums (b .year .closed) k s hk few told
+
+    named-is : (a : ℕ) → 1 ≤ a → a < 9 → (a ≡ gas → ⊥) → (a ≡ water → ⊥) → cell sums a k s ≡ under a w s k
+    named-is a low high d e = named-by (countedIn w) (u .sides) (movesOf w) sums (b .year .closed) k s hk few told a low high d e
+
+    gas-is : cell sums gas k s ≡ gasTotal w s k
+    gas-is =
+        gas-by (countedIn w) (u .sides) (movesOf w) sums (b .year .closed) k s hk few told
+        ∙ ap (λ (x : ℕ). under gas w s k + cond (isClosed w) (toGas x (remains w s k)) 0) side-is
+
+    water-is : cell sums water k s ≡ waterTotal w s k
+    water-is =
+        water-by (countedIn w) (u .sides) (movesOf w) sums (b .year .closed) k s hk few told
+        ∙ ap (λ (x : ℕ). under water w s k + cond (isClosed w) (toWater x (remains w s k)) 0) side-is
+
+    stage-is : stageLine sums u s k ≡ stageBy w s k
+    stage-is =
+        ap (λ (r : Rates). lineFor (cellsOf sums k s) r (getD (u .«water_to») k 0) (getD (u .«residue_to») k 0)) (up .rates k s hk l)
+        ∙ rw (
+          held-is,
+          named-is shipped (omega arith) (omega arith) (λ e. omega arith) (λ e. omega arith),
+          named-is offSite (omega arith) (omega arith) (λ e. omega arith) (λ e. omega arith),
+          named-is landfill (omega arith) (omega arith) (λ e. omega arith) (λ e. omega arith),
+          named-is soil (omega arith) (omega arith) (λ e. omega arith) (λ e. omega arith),
+          named-is consumed (omega arith) (omega arith) (λ e. omega arith) (λ e. omega arith),
+          gas-is,
+          water-is,
+          named-is vapour (omega arith) (omega arith) (λ e. omega arith) (λ e. omega arith),
+          up .water k hk,
+          up .residue k hk,
+        )
+
+  -- over all stages, for each amount of a line
+  over-stages : (f : Line → ℕ) → sumTo 8 (λ k. f (stageLine sums u s k)) ≡ sumTo 8 (λ k. f (stageBy w s k))
+  over-stages f = sum-same 8 (λ k. f (stageLine sums u s k)) (λ k. f (stageBy w s k)) (λ k hk. ap f (stage-is k hk))
+
+  line-is : lineTo sums u s 8 ≡ lineOf w s
+  unfolding lineTo lineOf
+  line-is =
+      rw (
+        over-stages (λ x. x .held),
+        over-stages (λ x. x .shipped),
+        over-stages (λ x. x .consumed),
+        over-stages (λ x. x .destroyed),
+        over-stages (λ x. x .headings .air),
+        over-stages (λ x. x .headings .water),
+        over-stages (λ x. x .headings .soil),
+        over-stages (λ x. x .headings .land),
+        over-stages (λ x. x .headings .sewer),
+        over-stages (λ x. x .headings .offsite),
+      )
+
+  out-is : reportAt b s .handled ≡ handledBy w s
+  out-is = balanced w b s h few .shown ∙ handled-posts w s
+
+  stock-is : reportAt b s .store + issued w s ≡ received w s
+  stock-is =
+      let z = balanced w b s h few in
+      weighed-stock _ _ _ _ _ _ _ (z .weighed-in) (z .weighed-out) (handled-posts w s) (entered-posts w s)
+
+  report-told : reportAt b s ≡ reportBy w s
+  report-told =
+      same-report _ _ _ _ _ _ _ _ _ _ _ _ (h .count) (ap (λ (x : List ℕ). getD x s 0) (up .numbers)) out-is
+      (ap₂ (λ (c n : ℕ). valueOr false (dueOf c n)) (ap (λ (x : List ℕ). getD x s 0) (up .classes)) out-is) (difference _ _ _ stock-is) line-is
+
+  weighs : Weighed w s
+  weighs =
+      record {
+        in-store = omega (arith, stock-is);
+        in-holding = λ k hk. enough (countedIn w) (u .sides) (movesOf w) sums (b .year .closed) k s hk few (h .state);
+        handled-is = omega (arith, stock-is);
+      }
+
+-- from the relation alone
+pub as-told : (w : Standing) (b : Book) (s : ℕ) → Tells w b → s < b .setup .outline .substances → (reportAt b s ≡ reportBy w s) × Weighed w s
+as-told w b s h l = go (h .setting)
+  where
+    go : Setting w (b .setup) → (reportAt b s ≡ reportBy w s) × Weighed w s
+    go (unset e f z) = absurd (omega arith)
+    go (is-set up) = (report-told w b h up s l, weighs w b h up s l)

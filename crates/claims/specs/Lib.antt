@@ -1,0 +1,5 @@
+pub mod Standing
+pub mod Demand
+pub mod Weighing
+pub mod Singles
+pub mod Figures

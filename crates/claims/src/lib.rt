@@ -1,0 +1,1 @@
+// The claims about whole lists of calls: definitions and proofs, and no function.

@@ -1,0 +1,100 @@
+-- What leaves a holding goes to another account. Assumes nothing.
+use mathlib.Core.Path.{_≡_, sym, ap, subst, _∙_}
+use mathlib.Core.Bool.{Bool, true, false}
+use mathlib.Core.List.{List, [], _∷_}
+use Prim.Native.Nat.{ℕ, _≤_}
+use native.Mathlib.Omega.{arith}
+use lib.Dec.{eqb}
+use lib.ListN.{length}
+use Rattle.amounts.specs.Decline.{Answer, taken, declined, check, checked, onTaken, layout, valueOr}
+use Rattle.amounts.proofs.decline.Laws.{one-taken, was-taken}
+use Rattle.layout.specs.declared.outline.Outline.{Outline}
+use Rattle.post.specs.Fields.{postAt}
+use Rattle.post.specs.Kind.{Row, rows, rowIf, find, fieldsFit, kindOf}
+use Rattle.post.specs.Moves.{measured, moveOf, moveIn, laidOut, moveAt, said}
+use Rattle.post.specs.declared.fields.Post.{Post}
+use Rattle.post.specs.declared.kind.Does.{Does}
+use Rattle.post.specs.declared.kind.Does.the-variants.{Receives, Issues, Brings, Leaves, Closes}
+use Rattle.post.specs.declared.moves.Move.{Move}
+use Rattle.post.specs.declared.moves.Move.the-variants.{Received, Issued, Brought, Gone, Close}
+
+-- ---- the row of a move that is read
+
+pub row-read : (o : Outline) (numbers s : List ℕ) (m : Move) → moveAt o numbers s ≡ taken m
+    → (r : Row) × (kindOf (postAt s .kind) ≡ taken r) × (moveIn r numbers (postAt s) ≡ taken m)
+unfolding moveAt laidOut
+row-read o numbers s m e =
+    let p = postAt s in
+    let a = was-taken (laidOut o s) (λ k. moveIn k numbers p) m e in
+    let b = was-taken (checked (check (eqb (length s) 48) layout ∷ []) p) (λ q. onTaken (kindOf (q .kind)) (λ k. checked (check (fieldsFit (k .limits o) q) layout ∷ []) k)) (a .0) (a .1) in
+    let same : b .0 ≡ p = one-taken (eqb (length s) 48) layout p (b .0) (sym {a = checked (check (eqb (length s) 48) layout ∷ []) p} (b .1)) .1 in
+    let c = was-taken (kindOf (b .0 .kind)) (λ k. checked (check (fieldsFit (k .limits o) (b .0)) layout ∷ []) k) (a .0) (b .2) in
+    let d = one-taken (fieldsFit (c .0 .limits o) (b .0)) layout (c .0) (a .0) (sym (c .2)) in
+    (a .0, ap (λ (q : Post). kindOf (q .kind)) (sym same) ∙ c .1 ∙ ap taken (sym (d .1)), a .2)
+
+-- it is the move that the bytes say, whatever the outline
+pub said-is : (o : Outline) (numbers s : List ℕ) (m : Move) → moveAt o numbers s ≡ taken m → said numbers s ≡ m
+said-is o numbers s m e = let z = row-read o numbers s m e in rw (z .1, z .2)
+
+-- ---- its account
+
+abbrev Apart : Does → Type 0
+Apart Receives = Unit
+Apart Issues = Unit
+Apart (Brings account) = Unit
+Apart (Leaves account) = 1 ≤ account
+Apart Closes = Unit
+
+abbrev AllApart : List Row → Type 0
+AllApart [] = Unit
+AllApart (r ∷ rs) = Apart (r .does) × AllApart rs
+
+all-apart : AllApart rows
+unfolding rows
+all-apart = (
+  tt,
+  (
+    tt,
+    (
+      tt,
+      (
+        tt,
+        (omega arith, (omega arith, (omega arith, (omega arith, (omega arith, (omega arith, (omega arith, (omega arith, (tt, tt))))))))),
+      ),
+    ),
+  ),
+)
+
+apart : (n : ℕ) (r : Row) → kindOf n ≡ taken r → Apart (r .does)
+unfolding kindOf find
+apart n r e = go rows all-apart e
+  where
+    pick : (t : Bool) (q : Row) (x : Answer Row) → Apart (q .does) → (x ≡ taken r → Apart (r .does)) → rowIf t q x ≡ taken r → Apart (r .does)
+    pick true q x w h f = let same : q ≡ r = cc in subst (λ (i : Row). Apart (i .does)) same w
+    pick false q x w h f = h f
+
+    go : (rs : List Row) → AllApart rs → find n rs ≡ taken r → Apart (r .does)
+    go [] w f = let z : _≡_ {A = ℕ} 0 1 = cc in absurd (omega arith)
+    go (q ∷ rs) w f = pick (eqb (q .number) n) q (find n rs) (w .0) (go rs (w .1)) f
+
+abbrev pub Named : Move → Type 0
+Named (Received m g) = Unit
+Named (Issued m stage g) = Unit
+Named (Brought account stage s n) = Unit
+Named (Gone account stage s n) = 1 ≤ account
+Named Close = Unit
+
+by-does : (d : Does) (p : Post) (n : ℕ) → Apart d → Named (moveOf d p n)
+by-does Receives p n h = tt
+by-does Issues p n h = tt
+by-does (Brings account) p n h = tt
+by-does (Leaves account) p n h = h
+by-does Closes p n h = tt
+
+pub move-named : (o : Outline) (numbers s : List ℕ) (m : Move) → moveAt o numbers s ≡ taken m → Named m
+move-named o numbers s m e =
+    let z = row-read o numbers s m e in
+    let r = z .0 in
+    let f = was-taken (measured (r .measure) numbers (postAt s)) (λ n. taken (moveOf (r .does) (postAt s) n)) m (z .2) in
+    let is : moveOf (r .does) (postAt s) (f .0) ≡ m = cc in
+    subst Named is (by-does (r .does) (postAt s) (f .0) (apart (postAt s .kind) r (z .1)))
