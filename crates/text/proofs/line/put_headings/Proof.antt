@@ -18,10 +18,14 @@ put-heading-requires-4 : tie.Need-put-heading-requires-4
 put-heading-requires-4 c κs = omega (arith, simp length-append at (c .before .before .before .before .before .before .before .before .before .before .before .before .before .before .pre .within))
 
 put-heading-requires-5 : tie.Need-put-heading-requires-5
-put-heading-requires-5 c κs = omega (arith, simp length-append at (c .before .before .before .before .before .before .before .before .before .before .before .before .before .before .before .before .before .before .pre .within))
+put-heading-requires-5 c κs =
+    let soil = c .before .before .before .before .before .before .before .before in
+    omega (arith, simp length-append at (soil .before .before .before .before .before .before .before .before .before .before .pre .within))
 
 put-heading-requires-6 : tie.Need-put-heading-requires-6
-put-heading-requires-6 c κs = omega (arith, simp length-append at (c .before .before .before .before .before .before .before .before .before .before .before .before .before .before .before .before .before .before .before .before .before .before .pre .within))
+put-heading-requires-6 c κs =
+    let soil = c .before .before .before .before .before .before .before .before .before .before .before .before in
+    omega (arith, simp length-append at (soil .before .before .before .before .before .before .before .before .before .before .pre .within))
 
 same-length : tie.Need-same-length
 same-length c = search needs
@@ -40,7 +44,8 @@ returns c =
     let h2 = room-then _ h1 (at2 .put-heading2 .ensures) in
     let h3 = room-then _ h2 (at3 .put-heading3 .ensures) in
     let h4 = room-then _ h3 (at4 .put-heading4 .ensures) in
-    puts-then h (at1 .put-heading .ensures) (puts-then h1 (at2 .put-heading2 .ensures) (puts-then h2 (at3 .put-heading3 .ensures) (puts-then h3 (at4 .put-heading4 .ensures) (puts-then h4 (at5 .put-heading5 .ensures) (at6 .put-heading6 .ensures)))))
+    let last = puts-then h3 (at4 .put-heading4 .ensures) (puts-then h4 (at5 .put-heading5 .ensures) (at6 .put-heading6 .ensures)) in
+    puts-then h (at1 .put-heading .ensures) (puts-then h1 (at2 .put-heading2 .ensures) (puts-then h2 (at3 .put-heading3 .ensures) last))
 
 pub put-headings-spec : {M : Type 1} → statement M
 put-headings-spec =

@@ -35,7 +35,9 @@ put-filing-requires : tie.Need-put-filing-requires
 put-filing-requires c κs = omega (arith, free (c .before .before .before .before .before .before .before .before .before .before .before .before .before .before .before .before))
 
 put-byte-requires-3 : tie.Need-put-byte-requires-3
-put-byte-requires-3 c κs = omega (arith, free (c .before .before .before .before .before .before .before .before .before .before .before .before .before .before .before .before .before .before .before .before))
+put-byte-requires-3 c κs =
+    let letter = c .before .before .before .before .before .before .before .before in
+    omega (arith, free (letter .before .before .before .before .before .before .before .before .before .before .before .before))
 
 same-length : tie.Need-same-length
 same-length c = search needs
@@ -56,7 +58,9 @@ returns c =
     let h2 = room-then _ h1 (at2 .put-field .ensures) in
     let h3 = room-then _ h2 (at3 .put-byte .ensures) in
     let h4 = room-then _ h3 (at4 .put-byte2 .ensures) in
-    (puts-as e (puts-then h (at1 .put-decimal .ensures) (puts-then h1 (at2 .put-field .ensures) (puts-then h2 (at3 .put-byte .ensures) (puts-then h3 (at4 .put-byte2 .ensures) (puts-then h4 (at5 .put-filing .ensures) (at6 .put-byte3 .ensures)))))), line-short (z .args .r) (k .struct-known .given .1 .0 .fits))
+    let end = puts-then h4 (at5 .put-filing .ensures) (at6 .put-byte3 .ensures) in
+    let due = puts-then h2 (at3 .put-byte .ensures) (puts-then h3 (at4 .put-byte2 .ensures) end) in
+    (puts-as e (puts-then h (at1 .put-decimal .ensures) (puts-then h1 (at2 .put-field .ensures) due)), line-short (z .args .r) (k .struct-known .given .1 .0 .fits))
 
 pub put-line-spec : {M : Type 1} → statement M
 put-line-spec =

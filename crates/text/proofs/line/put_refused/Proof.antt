@@ -10,16 +10,24 @@ slice-aggregate-put-bytes : tie.Need-slice-aggregate-put-bytes
 slice-aggregate-put-bytes c = search needs
 
 put-bytes-requires : tie.Need-put-bytes-requires
-put-bytes-requires c κs = let z = c .before .before .before in omega (arith, simp length-append at (room-as (refused-is (z .args .place) (z .args .number)) (z .pre) .within))
+put-bytes-requires c κs =
+    let z = c .before .before .before in
+    omega (arith, simp length-append at (room-as (refused-is (z .args .place) (z .args .number)) (z .pre) .within))
 
 put-field-requires : tie.Need-put-field-requires
-put-field-requires c κs = let z = c .before .before .before .before .before .before .before in omega (arith, simp length-append at (room-as (refused-is (z .args .place) (z .args .number)) (z .pre) .within))
+put-field-requires c κs =
+    let z = c .before .before .before .before .before .before .before in
+    omega (arith, simp length-append at (room-as (refused-is (z .args .place) (z .args .number)) (z .pre) .within))
 
 put-field-requires-2 : tie.Need-put-field-requires-2
-put-field-requires-2 c κs = let z = c .before .before .before .before .before .before .before .before .before .before .before in omega (arith, simp length-append at (room-as (refused-is (z .args .place) (z .args .number)) (z .pre) .within))
+put-field-requires-2 c κs =
+    let z = c .before .before .before .before .before .before .before .before .before .before .before in
+    omega (arith, simp length-append at (room-as (refused-is (z .args .place) (z .args .number)) (z .pre) .within))
 
 put-byte-requires : tie.Need-put-byte-requires
-put-byte-requires c κs = let z = c .before .before .before .before .before .before .before .before .before .before .before .before .before .before .before in omega (arith, simp length-append at (room-as (refused-is (z .args .place) (z .args .number)) (z .pre) .within))
+put-byte-requires c κs =
+    let z = c .before .before .before .before .before .before .before .before .before .before .before .before .before .before .before in
+    omega (arith, simp length-append at (room-as (refused-is (z .args .place) (z .args .number)) (z .pre) .within))
 
 same-length : tie.Need-same-length
 same-length c = search needs

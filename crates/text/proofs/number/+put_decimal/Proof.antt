@@ -40,19 +40,31 @@ returns : (t : ℕ) → put-decimal-lts.Need-returns (claims t) (put-decimal-at 
 returns t c = puts-as (decimal-one _ _ (c .before .before .before .digit-of .ensures) (c .before .before .before .before .before .if1 .taken)) (c .before .before .put-byte .ensures)
 
 put-decimal-requires : (t : ℕ) → put-decimal-lts.Need-put-decimal-requires (claims t) (put-decimal-at t) put-decimal.Post
-put-decimal-requires t c κs = let z = c .before .before .before in (omega (arith, z .pre .0, c .before .if1 .left), room-first _ _ (room-as (decimal-next _ _ refl (c .before .if1 .left) (z .fits .x .fits)) (z .pre .1)))
+put-decimal-requires t c κs =
+    let z = c .before .before .before in
+    let e = decimal-next _ _ refl (c .before .if1 .left) (z .fits .x .fits) in
+    (omega (arith, z .pre .0, c .before .if1 .left), room-first _ _ (room-as e (z .pre .1)))
 
 digit-of-requires-2 : (t : ℕ) → put-decimal-lts.Need-digit-of-requires-2 (claims t) (put-decimal-at t) put-decimal.Post
 digit-of-requires-2 t c κs = omega arith
 
 put-byte-requires-2 : (t : ℕ) → put-decimal-lts.Need-put-byte-requires-2 (claims t) (put-decimal-at t) put-decimal.Post
-put-byte-requires-2 t c κs = let z = c .before .before .before .before .before .before .before .before in room-then _ (room-as (decimal-next _ _ (c .digit-of2 .ensures) (c .before .before .before .before .before .before .if1 .left) (z .fits .x .fits)) (z .pre .1)) (c .before .before .before .before .put-decimal .ensures)
+put-byte-requires-2 t c κs =
+    let next = c .before .before .before .before in
+    let z = next .before .before .before .before in
+    let e = decimal-next _ _ (c .digit-of2 .ensures) (next .before .before .if1 .left) (z .fits .x .fits) in
+    room-then _ (room-as e (z .pre .1)) (next .put-decimal .ensures)
 
 same-length-2 : (t : ℕ) → put-decimal-lts.Need-same-length-2 (claims t) (put-decimal-at t) put-decimal.Post
 same-length-2 t c = c .before .before .put-byte2 .kept .0 ∙ c .before .before .before .before .before .before .before .put-decimal .kept .0
 
 returns-2 : (t : ℕ) → put-decimal-lts.Need-returns-2 (claims t) (put-decimal-at t) put-decimal.Post
-returns-2 t c = let z = c .before .before .before .before .before .before .before .before .before .before .before in let e = decimal-next (z .args .x) _ (c .before .before .before .digit-of2 .ensures) (c .before .before .before .before .before .before .before .before .before .if1 .left) (z .fits .x .fits) in puts-as e (puts-then (room-as e (z .pre .1)) (c .before .before .before .before .before .before .before .put-decimal .ensures) (c .before .before .put-byte2 .ensures))
+returns-2 t c =
+    let last = c .before .before in
+    let next = last .before .before .before .before .before in
+    let z = next .before .before .before .before in
+    let e = decimal-next (z .args .x) _ (last .before .digit-of2 .ensures) (next .before .before .if1 .left) (z .fits .x .fits) in
+    puts-as e (puts-then (room-as e (z .pre .1)) (next .put-decimal .ensures) (last .put-byte2 .ensures))
 
 pub +put-decimal-spec : {M : Type 1} → statement M
 +put-decimal-spec = close μ-put-decimal λ t. put-decimal-lts.spec (claims t)

@@ -13,7 +13,10 @@ same-length : tie.Need-same-length
 same-length c = search needs
 
 returns : tie.Need-returns
-returns c = puts-then (c .before .before .before .before .before .before .before .before .before .pre) (c .before .before .before .before .before .before .put-byte .ensures) (c .before .before .put-decimal .ensures)
+returns c =
+    let at2 = c .before .before in
+    let at1 = at2 .before .before .before .before in
+    puts-then (at1 .before .before .before .pre) (at1 .put-byte .ensures) (at2 .put-decimal .ensures)
 
 pub put-field-spec : {M : Type 1} → statement M
 put-field-spec = tie.close (tie.spec put-byte-requires put-decimal-requires same-length returns)

@@ -14,13 +14,13 @@ mul-if1 : tie.Need-mul-if1
 mul-if1 c = search needs
 
 put-decimal-requires : tie.Need-put-decimal-requires
-put-decimal-requires c κs = room-as (figure-whole _ (c .before .if1 .taken)) (c .before .before .before .pre)
+put-decimal-requires c κs = room-as (figure-whole _ (omega (arith, c .before .if1 .taken))) (c .before .before .before .pre)
 
 same-length : tie.Need-same-length
 same-length c = search needs
 
 returns : tie.Need-returns
-returns c = puts-as (figure-whole _ (c .before .before .before .before .if1 .taken)) (c .before .before .put-decimal .ensures)
+returns c = puts-as (figure-whole _ (omega (arith, c .before .before .before .before .if1 .taken))) (c .before .before .put-decimal .ensures)
 
 div-digit-of : tie.Need-div-digit-of
 div-digit-of c = search needs
@@ -29,7 +29,7 @@ digit-of-requires : tie.Need-digit-of-requires
 digit-of-requires c κs = search needs
 
 tenth-text : (c : tie.After-digit-of) → decimal (c .before .before .before .args .f / 1000000000) ++ ((46 ∷ []) ++ (c .digit-of .result ∷ [])) ≡ figureText (c .before .before .before .args .f)
-tenth-text c = figure-tenth _ _ (c .before .if1 .left) (c .digit-of .ensures)
+tenth-text c = figure-tenth _ _ (omega (arith, c .before .if1 .left)) (c .digit-of .ensures)
 
 put-decimal-requires-2 : tie.Need-put-decimal-requires-2
 put-decimal-requires-2 c κs =

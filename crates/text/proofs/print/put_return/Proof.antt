@@ -65,11 +65,15 @@ loop-less c = omega arith
 
 loop-again : tie.Need-loop-again Inv-loop μ-loop
 loop-again c =
-    let l = c .before .before .before .before .before .before .before .before .before in
+    let w = c .before .before in
+    let e = w .before .before .before in
+    let f = e .before .before in
+    let l = f .before .before in
     let t = l .before .before .before in
     let s = t .before .before .before in
-    let k = known (s .args .b) (l .loop .i) (c .before .before .before .before .before .before .before .report-of .result) (c .before .before .before .before .before .report .given .0 .0) (c .before .before .before .before .before .before .before .report-of .ensures) (c .before .before .before .before .before .report .given .1) in
-    printed-more (s .args .b) (t .put-title .last .0) (t .put-title .result) (l .loop .out) (l .loop .at) (l .loop .i) (c .before .before .before .before .before .report .given .0 .0) (c .before .before .put-line .last .0) (c .before .before .put-line .result) (l .loop .inv) (c .before .before .before .before .before .before .before .before .loop-test .taken) (k .0) (k .1) (c .before .before .put-line .ensures .0) (c .before .before .put-line .ensures .1)
+    let k = known (s .args .b) (l .loop .i) (f .report-of .result) (e .report .given .0 .0) (f .report-of .ensures) (e .report .given .1) in
+    printed-more (s .args .b) (t .put-title .last .0) (t .put-title .result) (l .loop .out) (l .loop .at) (l .loop .i) (e .report .given .0 .0) (w .put-line .last .0) (w .put-line .result)
+    (l .loop .inv) (f .before .loop-test .taken) (k .0) (k .1) (w .put-line .ensures .0) (w .put-line .ensures .1)
 
 same-length-2 : tie.Need-same-length-2 Inv-loop μ-loop
 same-length-2 c = let l = c .before in l .loop .inv .long ∙ same (l .before .before .before)
@@ -79,7 +83,8 @@ returns-2 c =
     let l = c .before in
     let t = l .before .before .before in
     let s = t .before .before .before in
-    printed-all (s .args .b) (now (s .args .out)) (t .put-title .last .0) (t .put-title .result) (l .loop .out) (l .loop .at) (l .loop .i) (t .put-title .ensures) (s .pre .1) (l .loop .inv) (omega (arith, c .loop-test .left, s .pre .0 .setup .substances-few))
+    printed-all (s .args .b) (now (s .args .out)) (t .put-title .last .0) (t .put-title .result) (l .loop .out) (l .loop .at) (l .loop .i) (t .put-title .ensures) (s .pre .1)
+    (l .loop .inv) (omega (arith, c .loop-test .left, s .pre .0 .setup .substances-few))
 
 pub put-return-spec : {M : Type 1} → statement M
 put-return-spec =
