@@ -16,7 +16,8 @@ pub(crate) fn enter<'a>(
     m: Move,
 ) -> bool
     requires { ⌜ Room (now counted) (now store) (now sums) (now handled) m ⌝ }
-    ensures { λ r. ⌜ Entered (now (counted .entry)) (now (sides .entry)) (now (store .entry)) (now (sums .entry)) (now (handled .entry)) m (now (store .exit)) (now (sums .exit)) (now (handled .exit)) r ⌝ }
+    ensures { λ r. ⌜ Entered (now (counted .entry)) (now (sides .entry)) (now (store .entry)) (now (sums .entry)) (now (handled .entry)) m
+        (now (store .exit)) (now (sums .exit)) (now (handled .exit)) r ⌝ }
 {
     match m {
         Move::Received { material, grams } => {

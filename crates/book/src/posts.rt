@@ -76,7 +76,8 @@ pub(crate) fn run(
     requires { ⌜ SoundSetup setup ⌝ }
     requires { ⌜ SoundYear setup (yearWith (now store) (now sums) (now handled) posts closed) ⌝ }
     requires { ⌜ n * size ≤ length (now s) ⌝ }
-    ensures { λ r. ⌜ Ran (takenTo setup (yearWith (now (store .entry)) (now (sums .entry)) (now (handled .entry)) posts closed) (partOf size (now (s .entry))) n) (r .verdict) (yearWith (now (store .exit)) (now (sums .exit)) (now (handled .exit)) (r .posts) (r .closed)) ⌝ }
+    ensures { λ r. ⌜ Ran (takenTo setup (yearWith (now (store .entry)) (now (sums .entry)) (now (handled .entry)) posts closed) (partOf size (now (s .entry))) n) (r .verdict)
+        (yearWith (now (store .exit)) (now (sums .exit)) (now (handled .exit)) (r .posts) (r .closed)) ⌝ }
 {
     let numbers = setup.numbers;
     let counted = setup.counted;
@@ -129,7 +130,8 @@ pub(crate) fn run_body(
 ) -> RunEnd
     requires { ⌜ SoundSetup setup ⌝ }
     requires { ⌜ SoundYear setup (yearWith (now store) (now sums) (now handled) posts closed) ⌝ }
-    ensures { λ r. ⌜ Ran (postsOn setup (yearWith (now (store .entry)) (now (sums .entry)) (now (handled .entry)) posts closed) count (now (body .entry))) (r .verdict) (yearWith (now (store .exit)) (now (sums .exit)) (now (handled .exit)) (r .posts) (r .closed)) ⌝ }
+    ensures { λ r. ⌜ Ran (postsOn setup (yearWith (now (store .entry)) (now (sums .entry)) (now (handled .entry)) posts closed) count (now (body .entry))) (r .verdict)
+        (yearWith (now (store .exit)) (now (sums .exit)) (now (handled .exit)) (r .posts) (r .closed)) ⌝ }
 {
     if let Verdict::Declined(d) = layout::posts::check_posts(setup.outline, closed, count, body) {
         return RunEnd {

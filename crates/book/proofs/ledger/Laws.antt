@@ -38,7 +38,8 @@ pub total-set : (l : List ℕ) (account stage s v : ℕ) → account < 9 → sta
 total-set l account stage s v ha hst hs long =
     let m = set l (cellOf account stage s) v in
     let elsewhere : (x k : ℕ) → (cellOf x k s ≡ cellOf account stage s → ⊥) → cell m x k s ≡ cell l x k s = λ x k ne. getD-set-other l (cellOf account stage s) (cellOf x k s) v 0 ne in
-    let stages = sum-point 8 stage (column m s) (column l s) hst (λ k hk ne. sum-same 9 (λ x. cell m x k s) (λ x. cell l x k s) (λ x hx. elsewhere x k (λ e. ne (same-digit x account k stage hk hst (omega arith))))) in
+    let stages = sum-point 8 stage (column m s) (column l s) hst
+    (λ k hk ne. sum-same 9 (λ x. cell m x k s) (λ x. cell l x k s) (λ x hx. elsewhere x k (λ e. ne (same-digit x account k stage hk hst (omega arith))))) in
     let accounts = sum-point 9 account (λ x. cell m x stage s) (λ x. cell l x stage s) ha (λ x hx ne. elsewhere x stage (λ e. ne (omega arith))) in
     omega (arith, total-is m s, total-is l s, stages, accounts, getD-set-same l (cellOf account stage s) v 0 (omega arith))
 
@@ -131,11 +132,13 @@ module _ (l sides : List ℕ) where
   unfolding settled
   total-settled zero t hk ht long = refl
   total-settled (suc k) t hk ht long =
-      total-moved-at (settled l sides k) (closesTo (getD sides k 0)) k (getD (settled l sides k) (at held k) 0) (closes-below (getD sides k 0)) (omega arith) (length-settled k ∙ long) (omega arith) t ht
+      total-moved-at (settled l sides k) (closesTo (getD sides k 0)) k (getD (settled l sides k) (at held k) 0)
+      (closes-below (getD sides k 0)) (omega arith) (length-settled k ∙ long) (omega arith) t ht
       ∙ total-settled k t (omega arith) ht long
 
   -- what a pair's account then holds is within what bounds the totals
-  pub settled-room : (k : ℕ) (out : List ℕ) (to most : ℕ) → out ≡ settled l sides k → k < 64 → to < 9 → length l ≡ 576 → ((s : ℕ) → s < 8 → total l s < most) → getD (set out (at held k) (getD out (at held k) 0 - getD out (at held k) 0)) (at to k) 0 + getD out (at held k) 0 < most
+  pub settled-room : (k : ℕ) (out : List ℕ) (to most : ℕ) → out ≡ settled l sides k → k < 64 → to < 9 → length l ≡ 576 → ((s : ℕ) → s < 8 → total l s < most)
+      → getD (set out (at held k) (getD out (at held k) 0 - getD out (at held k) 0)) (at to k) 0 + getD out (at held k) 0 < most
   settled-room k out to most e hk ht long few =
       let stays : length out ≡ 576 = ap length e ∙ length-settled k ∙ long in
       omega (

@@ -55,7 +55,8 @@ returns c =
     let b = s .args .b in
     let bytes = now (s .args .s) in
     let d = c .before .before .d .given .0 .0 in
-    let e = c .declined .ensures ∙ ap (outcome b) (sym (not-framed b bytes (d .number) (table-declined (frameChecks (b .blocks) bytes) _ bytes (k .check-frame .ensures) d (c .before .before .d .given .1)))) in
+    let e = c .declined .ensures
+    ∙ ap (outcome b) (sym (not-framed b bytes (d .number) (table-declined (frameChecks (b .blocks) bytes) _ bytes (k .check-frame .ensures) d (c .before .before .d .given .1)))) in
     (e, sound-by k e)
 
 enum-told : tie.Need-enum-told

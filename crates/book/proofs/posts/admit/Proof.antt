@@ -33,7 +33,8 @@ unfolding admitted checked
 returns-3 c =
     let k = c .before .before .before .before in
     let e = k .before .before in
-    rw (holds (e .before .before .may-post .ensures) (e .before .if1 .left), e .if2 .left, ← k .before .read-move .ensures, c .before .before .before .m .given .1, ← c .before .has-room .ensures, c .if3 .taken)
+    let in-turn = holds (e .before .before .may-post .ensures) (e .before .if1 .left) in
+    rw (in-turn, e .if2 .left, ← k .before .read-move .ensures, c .before .before .before .m .given .1, ← c .before .has-room .ensures, c .if3 .taken)
 
 returns-4 : tie.Need-returns-4
 unfolding admitted checked
@@ -47,7 +48,8 @@ unfolding admitted checked
 returns-5 c =
     let k = c .before .before .before .before in
     let e = k .before .before in
-    rw (holds (e .before .before .may-post .ensures) (e .before .if1 .left), e .if2 .left, ← k .before .read-move .ensures, c .before .before .before .m .given .1, ← c .before .has-room .ensures, c .if3 .left)
+    let in-turn = holds (e .before .before .may-post .ensures) (e .before .if1 .left) in
+    rw (in-turn, e .if2 .left, ← k .before .read-move .ensures, c .before .before .before .m .given .1, ← c .before .has-room .ensures, c .if3 .left)
 
 pub admit-spec : {M : Type 1} → statement M
 admit-spec =

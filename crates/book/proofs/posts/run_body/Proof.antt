@@ -27,7 +27,9 @@ abbrev start : tie.After-enum-told → tie.Start
 start c = c .before .before .before .before
 
 -- the block's own bytes pass
-passes : (c : tie.After-enum-told) → let s = start c in let a = s .args in Owned (a .setup .outline) (a .closed) (a .count) (now (a .body)) × (own (a .setup) (given s) (a .count) (now (a .body)) ≡ taken (a .count))
+passes : (c : tie.After-enum-told) → let s = start c in let a = s .args in
+    Owned (a .setup .outline) (a .closed) (a .count) (now (a .body))
+    × (own (a .setup) (given s) (a .count) (now (a .body)) ≡ taken (a .count))
 passes c =
     let s = start c in
     let a = s .args in

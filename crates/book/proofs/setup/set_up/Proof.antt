@@ -31,7 +31,8 @@ unfolding setUpOn
 returns-2 c =
     let k = c .before .before .before in
     let a = k .before .before .before .args in
-    ap taken (c .parse .ensures) ∙ sym (table-accepted (setupChecks (a .u .outline) (a .count) (now (a .body))) _ (setupOf (a .count) (now (a .body))) (k .check-setup .ensures) (c .before .enum-told2 .given .1))
+    ap taken (c .parse .ensures)
+    ∙ sym (table-accepted (setupChecks (a .u .outline) (a .count) (now (a .body))) _ (setupOf (a .count) (now (a .body))) (k .check-setup .ensures) (c .before .enum-told2 .given .1))
 
 pub set-up-spec : {M : Type 1} → statement M
 set-up-spec =

@@ -19,7 +19,9 @@ abbrev start : tie.After-enum-told2 → tie.Start
 start c = c .before .before .before .before .before
 
 -- the checks pass
-passes : (c : tie.After-enum-told2) → let a = start c .args in Accepts (a .u .outline) (a .stage) (now (a .body)) × (checked (stageChecks (a .u .outline) (a .stage) (now (a .body))) (withStage (a .u) (a .stage) (now (a .body))) ≡ taken (withStage (a .u) (a .stage) (now (a .body))))
+passes : (c : tie.After-enum-told2) → let a = start c .args in
+    Accepts (a .u .outline) (a .stage) (now (a .body))
+    × (checked (stageChecks (a .u .outline) (a .stage) (now (a .body))) (withStage (a .u) (a .stage) (now (a .body))) ≡ taken (withStage (a .u) (a .stage) (now (a .body))))
 passes c =
     let a = start c .args in
     let after = withStage (a .u) (a .stage) (now (a .body)) in

@@ -24,7 +24,8 @@ use Rattle.book.proofs.whole.take_whole.Statement.{statement}
 use Rattle.book.proofs.whole.take_whole.Tie as tie
 
 abbrev Inv-loop : tie.InvT-loop
-Inv-loop journal setup₀ store₀ sums₀ handled₀ posts₀ closed₀ blocks₀ at₀ setup store sums handled posts closed blocks at = Upto journal (bookWith setup (yearWith store sums handled posts closed) blocks) at
+Inv-loop journal setup₀ store₀ sums₀ handled₀ posts₀ closed₀ blocks₀ at₀ setup store sums handled posts closed blocks at =
+    Upto journal (bookWith setup (yearWith store sums handled posts closed) blocks) at
 
 abbrev μ-loop : tie.MeasureT-loop
 μ-loop journal setup₀ store₀ sums₀ handled₀ posts₀ closed₀ blocks₀ at₀ setup store sums handled posts closed blocks at = length journal - at
@@ -157,7 +158,8 @@ returns-2 c =
     let l = at e in
     let s = now (start l .args .journal) in
     let d = c .before .before .v .given .0 .0 in
-    let no = posts-refused (l .loop .setup) (year l) (l .loop .blocks) (bytes e) (passes t .1) (r .run-body .result .verdict) d (left r) (i .if1 .taken) (r .run-body .ensures) (c .before .before .v .given .1) in
+    let no = posts-refused (l .loop .setup) (year l) (l .loop .blocks) (bytes e) (passes t .1) (r .run-body .result .verdict) d (left r)
+    (i .if1 .taken) (r .run-body .ensures) (c .before .before .v .given .1) in
     (c .refused-at2 .ensures .0 ∙ ap ended (upto-stop s (l .loop .at) (e .part-end .result) (inside e) (e .part-end .ensures) (book l) (d .number) (l .loop .inv) no), c .refused-at2 .ensures .1)
 
 enum-told-2 : tie.Need-enum-told-2 Inv-loop μ-loop
@@ -202,7 +204,8 @@ returns-3 c =
     let l = at e in
     let s = now (start l .args .journal) in
     let d = c .before .before .v2 .given .0 .0 in
-    let no = setup-refused (l .loop .setup) (year l) (l .loop .blocks) (bytes e) (passes t .1) (r .set-up-by .result .verdict) d (r .set-up-by .result .setup) (i .if1 .left) (r .set-up-by .ensures) (c .before .before .v2 .given .1) in
+    let no = setup-refused (l .loop .setup) (year l) (l .loop .blocks) (bytes e) (passes t .1) (r .set-up-by .result .verdict) d (r .set-up-by .result .setup)
+    (i .if1 .left) (r .set-up-by .ensures) (c .before .before .v2 .given .1) in
     (c .refused-at3 .ensures .0 ∙ ap ended (upto-stop s (l .loop .at) (e .part-end .result) (inside e) (e .part-end .ensures) (book l) (d .number) (l .loop .inv) no), c .refused-at3 .ensures .1)
 
 enum-told-3 : tie.Need-enum-told-3 Inv-loop μ-loop
@@ -227,7 +230,8 @@ loop-again-2 c =
     let l = at e in
     let s = now (start l .args .journal) in
     upto-next s (l .loop .at) (e .part-end .result) (inside e) (e .part-end .ensures) (book l) _ (small o) (l .loop .inv)
-    (setup-entered (l .loop .setup) (year l) (l .loop .blocks) (bytes e) (passes t .1) (r .set-up-by .result .verdict) (r .set-up-by .result .setup) (i .if1 .left) (r .set-up-by .ensures) (c .before .enum-told3 .given .1))
+    (setup-entered (l .loop .setup) (year l) (l .loop .blocks) (bytes e) (passes t .1) (r .set-up-by .result .verdict) (r .set-up-by .result .setup)
+    (i .if1 .left) (r .set-up-by .ensures) (c .before .enum-told3 .given .1))
 
 read-to-requires : tie.Need-read-to-requires Inv-loop μ-loop
 read-to-requires c κs = search needs

@@ -61,7 +61,16 @@ returns-4 c =
     let k₃ = c .before .before .before in
     let k₂ = k₃ .before .before .before in
     let k₁ = k₂ .before .before .before in
-    rw (← k₁ .before .is-in .ensures, in₁ k₁, ← k₂ .before .is-in2 .ensures, in₂ k₂, ← k₃ .before .is-in3 .ensures, in₃ k₃, ← c .before .is-in4 .ensures, not-true (c .before .is-in4 .result) (c .if4 .taken))
+    rw (
+      ← k₁ .before .is-in .ensures,
+      in₁ k₁,
+      ← k₂ .before .is-in2 .ensures,
+      in₂ k₂,
+      ← k₃ .before .is-in3 .ensures,
+      in₃ k₃,
+      ← c .before .is-in4 .ensures,
+      not-true (c .before .is-in4 .result) (c .if4 .taken),
+    )
 
 is-in-requires-5 : tie.Need-is-in-requires-5
 is-in-requires-5 c κs = search needs

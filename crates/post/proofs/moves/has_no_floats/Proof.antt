@@ -19,13 +19,21 @@ is-zero-requires-3 : tie.Need-is-zero-requires-3
 is-zero-requires-3 c κs = search needs
 
 returns-3 : tie.Need-returns-3
-returns-3 c = let k = c .before .before in let l = k .before .before in rw (holds (l .before .is-zero .ensures) (l .if1 .left), holds (k .before .is-zero2 .ensures) (k .if2 .left), misses (c .before .is-zero3 .ensures) (c .if3 .taken))
+returns-3 c =
+    let k = c .before .before in
+    let l = k .before .before in
+    rw (holds (l .before .is-zero .ensures) (l .if1 .left), holds (k .before .is-zero2 .ensures) (k .if2 .left), misses (c .before .is-zero3 .ensures) (c .if3 .taken))
 
 is-zero-requires-4 : tie.Need-is-zero-requires-4
 is-zero-requires-4 c κs = search needs
 
 returns-4 : tie.Need-returns-4
-returns-4 c = let j = c .before in let k = j .before .before in let l = k .before .before in rw (holds (l .before .is-zero .ensures) (l .if1 .left), holds (k .before .is-zero2 .ensures) (k .if2 .left), holds (j .before .is-zero3 .ensures) (j .if3 .left)) (c .is-zero4 .ensures)
+returns-4 c =
+    let j = c .before in
+    let k = j .before .before in
+    let l = k .before .before in
+    rw (holds (l .before .is-zero .ensures) (l .if1 .left), holds (k .before .is-zero2 .ensures) (k .if2 .left), holds (j .before .is-zero3 .ensures) (j .if3 .left))
+    (c .is-zero4 .ensures)
 
 pub has-no-floats-spec : {M : Type 1} → statement M
 has-no-floats-spec =

@@ -105,16 +105,19 @@ returns-4 c =
     let k = e .before .before .before .before in
     let a = start k .args in
     let n = c .before .before .n .given .0 .0 in
-    let is : c .move-of .result ≡ moveOf (found k .0 .does) (post k) n = c .move-of .ensures ∙ ap (λ (i : Kind). moveOf (i .does) (post k) n) (found k .2) in
+    let is : c .move-of .result ≡ moveOf (found k .0 .does) (post k) n =
+    c .move-of .ensures ∙ ap (λ (i : Kind). moveOf (i .does) (post k) n) (found k .2) in
     ap taken is
-    ∙ amount (a .o) (now (a .numbers)) (now (a .s)) (long k) (post k) (decoded k) (found k .0) (found k .1) (fits (e .before)) n (sym (ap losses.answer (c .before .before .n .given .1)) ∙ as-measured e)
+    ∙ amount (a .o) (now (a .numbers)) (now (a .s)) (long k) (post k) (decoded k) (found k .0) (found k .1) (fits (e .before)) n
+    (sym (ap losses.answer (c .before .before .n .given .1)) ∙ as-measured e)
 
 returns-5 : tie.Need-returns-5
 returns-5 c =
     let e = c .before .before .before in
     let k = e .before .before .before .before in
     let a = start k .args in
-    no-amount (a .o) (now (a .numbers)) (now (a .s)) (long k) (post k) (decoded k) (found k .0) (found k .1) (fits (e .before)) (c .before .d .given .0 .0 .number) (sym (ap losses.answer (c .before .d .given .1)) ∙ as-measured e)
+    no-amount (a .o) (now (a .numbers)) (now (a .s)) (long k) (post k) (decoded k) (found k .0) (found k .1) (fits (e .before)) (c .before .d .given .0 .0 .number)
+    (sym (ap losses.answer (c .before .d .given .1)) ∙ as-measured e)
 
 pub read-move-spec : {M : Type 1} → statement M
 read-move-spec =
