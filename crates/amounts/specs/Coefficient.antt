@@ -9,7 +9,6 @@ use Rattle.amounts.specs.Decline.{Answer, taken, declined, noRow}
 use Rattle.amounts.specs.declared.coefficient.CoefficientRow.{CoefficientRow}
 use Rattle.amounts.specs.declared.coefficient.Entry.{Entry}
 use Rattle.amounts.specs.declared.coefficient.Found.{Found}
-use Rattle.amounts.specs.declared.coefficient.Found.the-variants.{Row, NoRow}
 
 abbrev pub entry : ℕ → Float → Float → Entry
 entry n k m = record { number = n; row = record { k = k; m = m } }
@@ -37,7 +36,6 @@ unfoldable pub rowOf : ℕ → Answer CoefficientRow
 unfolding find rows
 rowOf n = find n rows
 
--- what each case of the code's answer stands for
-abbrev pub answer : Found → Answer CoefficientRow
-answer (Row row) = taken row
-answer NoRow = declined noRow
+-- what the code's answer stands for: a row where one is known, decline 8 otherwise
+unfoldable pub answer : Found → Answer CoefficientRow
+answer f = rowIf (eqb (f .known) 1) (f .row) (declined noRow)

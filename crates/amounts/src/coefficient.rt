@@ -13,10 +13,19 @@ pub struct Entry {
     pub row: CoefficientRow,
 }
 
-pub enum Found {
-    Row(CoefficientRow),
-    NoRow,
+// A row, and whether it is one of the table's. The flag is as wide as a float, so that no byte is unused and each field is copied by itself.
+pub struct Found {
+    pub known: u64,
+    pub row: CoefficientRow,
 }
+
+pub const KNOWN: u64 = 1;
+
+// No row: its floats are never read.
+pub const NOT_FOUND: Found = Found {
+    known: 0,
+    row: CoefficientRow { k: 0.0, m: 0.0 },
+};
 
 // Document 000, tables 2.3 and 2.4; the numbers are document 004's.
 const ROWS: [Entry; 5] = [
@@ -61,19 +70,15 @@ const ROWS: [Entry; 5] = [
 pub fn row_of(number: u16) -> Found
     ensures { λ r. ⌜ answer r ≡ rowOf number ⌝ }
 {
-    let mut at = 5usize;
+    let mut found = NOT_FOUND;
     let mut i = 5usize;
     while i > 0 {
         i -= 1;
         let e = ROWS[i];
         if e.number == number {
-            at = i;
+            let row = e.row;
+            found = Found { known: KNOWN, row };
         }
     }
-    if at == 5 {
-        return Found::NoRow;
-    }
-    let e = ROWS[at];
-    let row = e.row;
-    Found::Row(row)
+    found
 }

@@ -52,9 +52,10 @@ fn loss_kg(form: LossForm, found: Found) -> Kg
             content,
             drawn,
         } => {
-            let Found::Row(row) = found else {
+            if found.known != coefficient::KNOWN {
                 return Kg::Declined(decline::NO_ROW);
-            };
+            }
+            let row = found.row;
             Kg::Value(floating_roof_kg(row, diameter, content, drawn))
         }
         LossForm::FixedRoof {
@@ -63,9 +64,10 @@ fn loss_kg(form: LossForm, found: Found) -> Kg
             tank,
             share,
         } => {
-            let Found::Row(row) = found else {
+            if found.known != coefficient::KNOWN {
                 return Kg::Declined(decline::NO_ROW);
-            };
+            }
+            let row = found.row;
             Kg::Value(fixed_roof_kg(row, volume, partial, tank, share))
         }
         LossForm::Station {
@@ -112,7 +114,7 @@ fn row_for(form: u8, number: u16) -> Found
     ensures { λ r. ⌜ ((w u p q : Float) → lossOver form (coefficients.answer r) w u p q ≡ lossOver form (coefficients.rowOf number) w u p q) ⌝ }
 {
     if form == 3 {
-        return Found::NoRow;
+        return coefficient::NOT_FOUND;
     }
     coefficient::row_of(number)
 }

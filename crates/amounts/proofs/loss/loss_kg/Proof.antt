@@ -1,18 +1,13 @@
 use borrow.Author.Needs.{needs}
+use Rattle.amounts.proofs.coefficient.Laws.{is-known, is-unknown}
 use Rattle.amounts.proofs.loss.loss_kg.Statement.{statement}
 use Rattle.amounts.proofs.loss.loss_kg.Tie as tie
 
 enum-known-form : tie.Need-enum-known-form
 enum-known-form c = search needs
 
-enum-known-found : tie.Need-enum-known-found
-enum-known-found c = search needs
-
-enum-told : tie.Need-enum-told
-enum-told c = search needs
-
 returns : tie.Need-returns
-returns c = rw (c .before .before .before .form .given .1, c .enum-told .given .1)
+returns c = rw (c .before .before .before .form .given .1, is-unknown (c .before .before .before .before .before .args .found) (c .if1 .taken))
 
 floating-roof-kg-requires : tie.Need-floating-roof-kg-requires
 floating-roof-kg-requires c κs = search needs
@@ -20,14 +15,8 @@ floating-roof-kg-requires c κs = search needs
 enum-known-form-2 : tie.Need-enum-known-form-2
 enum-known-form-2 c = search needs
 
-enum-known-found-2 : tie.Need-enum-known-found-2
-enum-known-found-2 c = search needs
-
-enum-told-2 : tie.Need-enum-told-2
-enum-told-2 c = search needs
-
 returns-2 : tie.Need-returns-2
-returns-2 c = rw (c .before .before .before .form2 .given .1, c .enum-told2 .given .1)
+returns-2 c = rw (c .before .before .before .form2 .given .1, is-unknown (c .before .before .before .before .before .args .found) (c .if2 .taken))
 
 fixed-roof-kg-requires : tie.Need-fixed-roof-kg-requires
 fixed-roof-kg-requires c κs = search needs
@@ -39,10 +28,10 @@ station-kg-requires : tie.Need-station-kg-requires
 station-kg-requires c κs = search needs
 
 returns-3 : tie.Need-returns-3
-returns-3 c = rw (c .before .before .before .before .before .form .given .1, c .before .before .found .given .1, c .floating-roof-kg .ensures)
+returns-3 c = rw (c .before .before .before .before .before .form .given .1, is-known (c .before .before .before .before .before .before .before .args .found) (c .before .before .if1 .left), c .floating-roof-kg .ensures)
 
 returns-4 : tie.Need-returns-4
-returns-4 c = rw (c .before .before .before .before .before .form2 .given .1, c .before .before .found2 .given .1, c .fixed-roof-kg .ensures)
+returns-4 c = rw (c .before .before .before .before .before .form2 .given .1, is-known (c .before .before .before .before .before .before .before .args .found) (c .before .before .if2 .left), c .fixed-roof-kg .ensures)
 
 returns-5 : tie.Need-returns-5
 returns-5 c = rw (c .before .before .form3 .given .1, c .station-kg .ensures)
@@ -52,13 +41,9 @@ loss-kg-spec =
     tie.close
     (tie.spec
     enum-known-form
-    enum-known-found
-    enum-told
     returns
     floating-roof-kg-requires
     enum-known-form-2
-    enum-known-found-2
-    enum-told-2
     returns-2
     fixed-roof-kg-requires
     enum-known-form-3
