@@ -2,6 +2,7 @@
 ghost use mathlib.Core.Path.{_≡_};
 ghost use Prim.Native.Nat.{_+_, _≤_, min};
 ghost use Rattle.book.specs.Site.{freshBook, bookWith, Sound};
+ghost use Rattle.book.specs.Steps.{yearWith};
 ghost use Rattle.book.specs.Whole.{partsIn, readAll, read, refused, ended};
 use crate::block::set_up_by;
 use crate::posts::run_body;
@@ -43,15 +44,29 @@ fn refused_at(place: u32, decline: Decline) -> WholeRead
     }
 }
 
-fn read_to(setup: Setup, year: Year, blocks: u32) -> WholeRead
-    ensures { λ r. ⌜ r ≡ ended (read (bookWith setup year blocks)) ⌝ }
+fn read_to(
+    setup: Setup,
+    store: [u64; 12],
+    sums: [u64; 576],
+    handled: [u64; 8],
+    posts: u32,
+    closed: bool,
+    blocks: u32,
+) -> WholeRead
+    ensures { λ r. ⌜ r ≡ ended (read (bookWith setup (yearWith store sums handled posts closed) blocks)) ⌝ }
 {
     WholeRead {
         verdict: Verdict::Accepted,
         place: blocks,
         book: Book {
             setup,
-            year,
+            year: Year {
+                store,
+                sums,
+                handled,
+                posts,
+                closed,
+            },
             blocks,
         },
     }
@@ -63,9 +78,9 @@ pub fn take_whole(journal: &[u8]) -> WholeRead
     ensures { λ r. ⌜ Sound (r .book) ⌝ }
 {
     let mut setup = site::fresh_setup();
-    let mut store = [0u64; 12];
-    let mut sums = [0u64; 576];
-    let mut handled = [0u64; 8];
+    let store = &mut [0u64; 12];
+    let sums = &mut [0u64; 576];
+    let handled = &mut [0u64; 8];
     let mut posts: u32 = 0;
     let mut closed = false;
     let mut blocks: u32 = 0;
@@ -80,16 +95,7 @@ pub fn take_whole(journal: &[u8]) -> WholeRead
         let count = part[5];
         let body = &part[8..508];
         if kind == 3 {
-            let r = run_body(
-                setup,
-                &mut store,
-                &mut sums,
-                &mut handled,
-                posts,
-                closed,
-                count,
-                body,
-            );
+            let r = run_body(setup, store, sums, handled, posts, closed, count, body);
             let v = r.verdict;
             if let Verdict::Declined(d) = v {
                 return refused_at(blocks, d);
@@ -109,12 +115,5 @@ pub fn take_whole(journal: &[u8]) -> WholeRead
             at = end;
         }
     }
-    let year = Year {
-        store,
-        sums,
-        handled,
-        posts,
-        closed,
-    };
-    read_to(setup, year, blocks)
+    read_to(setup, *store, *sums, *handled, posts, closed, blocks)
 }

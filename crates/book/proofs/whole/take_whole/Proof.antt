@@ -31,7 +31,7 @@ abbrev μ-loop : tie.MeasureT-loop
 μ-loop journal setup₀ store₀ sums₀ handled₀ posts₀ closed₀ blocks₀ at₀ setup store sums handled posts closed blocks at = length journal - at
 
 abbrev start : tie.At-loop Inv-loop μ-loop → tie.Start Inv-loop μ-loop
-start l = l .before .before .before
+start l = l .before .before .before .before .before .before
 
 abbrev year : tie.At-loop Inv-loop μ-loop → Year
 year l = let k = l .loop in yearWith (k .store) (k .sums) (k .handled) (k .posts) (k .closed)
@@ -88,8 +88,8 @@ fresh-setup-requires c κs = search needs
 
 loop-holds : tie.Need-loop-holds Inv-loop μ-loop
 loop-holds c =
-    let s = c .before .before in
-    upto-none (now (s .args .journal)) _ (ap (λ (u : Setup). bookWith u freshYear 0) (c .fresh-setup .ensures)) sound-fresh
+    let f = c .before .before .before in
+    upto-none (now (f .before .before .args .journal)) _ (ap (λ (u : Setup). bookWith u freshYear 0) (f .fresh-setup .ensures)) sound-fresh
 
 part-end-requires : tie.Need-part-end-requires Inv-loop μ-loop
 part-end-requires c κs = omega arith
@@ -238,10 +238,11 @@ read-to-requires c κs = search needs
 
 returns-4 : tie.Need-returns-4 Inv-loop μ-loop
 returns-4 c =
-    let l = c .before .before in
+    let t = c .before .before .before .before in
+    let l = t .before in
     let s = now (start l .args .journal) in
     let e = c .read-to .ensures in
-    (e ∙ ap ended (upto-all s (book l) (l .loop .at) (l .loop .inv) (omega (arith, c .before .loop-test))), subst (λ (r : WholeRead). Sound (r .book)) (sym e) (l .loop .inv .sound))
+    (e ∙ ap ended (upto-all s (book l) (l .loop .at) (l .loop .inv) (omega (arith, t .loop-test))), subst (λ (r : WholeRead). Sound (r .book)) (sym e) (l .loop .inv .sound))
 
 pub take-whole-spec : {M : Type 1} → statement M
 take-whole-spec =
