@@ -66,7 +66,7 @@ const ROWS: [Entry; 5] = [
     },
 ];
 
-// The row of a number. All rows are gone through, the first last, which a compiler does without a jump for each.
+// The row of a number. All rows are gone through, the first last, so that of two with the number the first would stand.
 pub fn row_of(number: u16) -> Found
     ensures { λ r. ⌜ answer r ≡ rowOf number ⌝ }
 {
