@@ -36,9 +36,9 @@ extern "C" {
 #define PRTR_OUT_OF_TURN 4   /* a set-up block out of its turn, or posts before the set-up is whole */
 #define PRTR_CLOSED 5        /* the book is closed */
 #define PRTR_LAYOUT 6        /* a length, kind, form, index, count, limit, order or zero place */
-#define PRTR_FLOAT 7         /* a float isn't finite or is outside its range */
+#define PRTR_RANGE 7         /* a float isn't finite or is outside its range */
 #define PRTR_NO_ROW 8        /* form 1 or 2 of a substance without a coefficient row */
-#define PRTR_LOSS_LIMIT 9    /* a vapour loss above 2,000,000 kg */
+#define PRTR_EXCESS 9        /* a vapour loss above 2,000,000 kg */
 #define PRTR_FULL 10         /* 4,000 posts are accepted and this isn't the close */
 #define PRTR_SHORT 11        /* a store or holding is less than what leaves it */
 #define PRTR_NO_SUBSTANCE 12 /* a report names a substance that the book hasn't */
@@ -97,8 +97,8 @@ uint8_t prtr_due(uint8_t class_, uint64_t handled, uint8_t *due);
  *
  * Answers 0 and sets *micrograms. Else declines by the first that applies,
  * and *micrograms is as before: PRTR_LAYOUT for another form or for number 0,
- * PRTR_FLOAT, PRTR_NO_ROW (forms 1 and 2 know the numbers 53, 80, 300, 392
- * and 400), PRTR_LOSS_LIMIT.
+ * PRTR_RANGE, PRTR_NO_ROW (forms 1 and 2 know the numbers 53, 80, 300, 392
+ * and 400), PRTR_EXCESS.
  */
 uint8_t prtr_loss(uint8_t form, uint16_t number, uint64_t w, uint64_t u,
                   uint64_t p, uint64_t q, uint64_t *micrograms);

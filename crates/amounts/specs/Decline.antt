@@ -9,20 +9,20 @@ pub data Answer (A : Type 0) : Type 0 where
   declined : ℕ → Answer A
 
 -- 1: the block isn't 512 bytes or lacks "PRTR"
-abbrev pub noBlock : ℕ
-noBlock = 1
+abbrev pub notABlock : ℕ
+notABlock = 1
 
 -- 2: a check sum differs
 abbrev pub checkSum : ℕ
 checkSum = 2
 
 -- 3: the kind isn't 1–3 or the block number isn't the next
-abbrev pub blockNumber : ℕ
-blockNumber = 3
+abbrev pub notNext : ℕ
+notNext = 3
 
 -- 4: a set-up block comes out of its turn, or a post or a block of posts before the last stage is described
-abbrev pub turn : ℕ
-turn = 4
+abbrev pub outOfTurn : ℕ
+outOfTurn = 4
 
 -- 5: the book is closed
 abbrev pub closed : ℕ
@@ -53,8 +53,8 @@ abbrev pub short : ℕ
 short = 11
 
 -- 12: a report names a substance that the book hasn't
-abbrev pub unknown : ℕ
-unknown = 12
+abbrev pub noSubstance : ℕ
+noSubstance = 12
 
 -- a test, and the number of the decline where it fails
 pub data Check : Type 0 where

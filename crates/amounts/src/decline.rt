@@ -6,16 +6,16 @@ pub struct Decline {
 }
 
 // The block isn't 512 bytes or lacks "PRTR".
-pub const NO_BLOCK: Decline = Decline { number: 1 };
+pub const NOT_A_BLOCK: Decline = Decline { number: 1 };
 
 // A check sum differs.
 pub const CHECK_SUM: Decline = Decline { number: 2 };
 
 // The kind isn't 1 to 3 or the block number isn't the next.
-pub const NUMBER: Decline = Decline { number: 3 };
+pub const NOT_NEXT: Decline = Decline { number: 3 };
 
 // A set-up comes out of its turn, or a post before the last stage is described.
-pub const TURN: Decline = Decline { number: 4 };
+pub const OUT_OF_TURN: Decline = Decline { number: 4 };
 
 // The book is closed.
 pub const CLOSED: Decline = Decline { number: 5 };
@@ -39,4 +39,4 @@ pub const FULL: Decline = Decline { number: 10 };
 pub const SHORT: Decline = Decline { number: 11 };
 
 // A report names a substance that the book hasn't.
-pub const UNKNOWN: Decline = Decline { number: 12 };
+pub const NO_SUBSTANCE: Decline = Decline { number: 12 };

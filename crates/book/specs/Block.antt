@@ -3,7 +3,7 @@ use Prim.Native.Nat.{ℕ, _+_}
 use mathlib.Core.Bool.{cond}
 use mathlib.Core.List.{List}
 use lib.Dec.{eqb}
-use Rattle.amounts.specs.Decline.{Answer, taken, declined, checked, onTaken, blockNumber}
+use Rattle.amounts.specs.Decline.{Answer, taken, declined, checked, onTaken, notNext}
 use Rattle.layout.specs.Frame.{blockKind, countOf, bodyOf, frameChecks}
 use Rattle.layout.specs.declared.setup.Setup.{Setup}
 use Rattle.book.specs.Posts.{postsOn}
@@ -15,7 +15,7 @@ use Rattle.book.specs.declared.site.Year.{Year}
 
 -- 4 on, of a set-up block: kind 1, the substances and materials; kind 2, a stage. No other kind is one.
 abbrev pub setupBy : Setup → ℕ → ℕ → List ℕ → Answer Setup
-setupBy u kind count body = cond (eqb kind 1) (setUpOn u count body) (cond (eqb kind 2) (describedOn u count body) (declined blockNumber))
+setupBy u kind count body = cond (eqb kind 1) (setUpOn u count body) (cond (eqb kind 2) (describedOn u count body) (declined notNext))
 
 -- a block more on a book: with another set-up, or with another year
 abbrev pub onSetup : Book → Answer Setup → Answer Book

@@ -17,7 +17,7 @@ use Rattle.book.specs.declared.site.Year.{Year}
 
 -- 4 and 5
 abbrev pub turnChecks : Setup → Year → List Check
-turnChecks u y = check (mayPost (u .outline)) number.turn ∷ check (not (y .closed)) number.closed ∷ []
+turnChecks u y = check (mayPost (u .outline)) number.outOfTurn ∷ check (not (y .closed)) number.closed ∷ []
 
 -- 10: "4,000 posts are accepted and this isn't the close"
 abbrev pub hasRoom : ℕ → Move → Bool

@@ -5,7 +5,7 @@ use mathlib.Core.Bool.{Bool, true, not}
 use mathlib.Core.List.{List, [], _∷_}
 use lib.ListN.{length, getD}
 use Rattle.amounts.specs.Decline as number
-use Rattle.amounts.specs.Decline.{Answer, taken, declined, check, checked, onTaken, turn, full}
+use Rattle.amounts.specs.Decline.{Answer, taken, declined, check, checked, onTaken, outOfTurn, full}
 use Rattle.layout.specs.Outline.{mayPost}
 use Rattle.layout.specs.Verdict.{verdictOf}
 use Rattle.layout.specs.declared.verdict.Verdict.{Verdict}
@@ -51,7 +51,7 @@ pub record Entered (counted sides store sums handled : List ℕ) (m : Move) (sto
 unfoldable pub admitted : Outline → List ℕ → Bool → ℕ → List ℕ → Answer Move
 unfolding checked moveAt
 admitted o numbers closed posts s =
-    onTaken (checked (check (mayPost o) turn ∷ check (not closed) number.closed ∷ []) s) (λ s.
+    onTaken (checked (check (mayPost o) outOfTurn ∷ check (not closed) number.closed ∷ []) s) (λ s.
     onTaken (moveAt o numbers s) (λ m. checked (check (hasRoom posts m) full ∷ []) m))
 
 -- a year by its parts

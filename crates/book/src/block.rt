@@ -29,7 +29,7 @@ pub(crate) fn set_up_by(u: Setup, kind: u8, count: u8, body: &[u8]) -> SetupEnd
         return stage::describe(u, count, body);
     }
     SetupEnd {
-        verdict: Verdict::Declined(decline::NUMBER),
+        verdict: Verdict::Declined(decline::NOT_NEXT),
         setup: u,
     }
 }

@@ -45,7 +45,7 @@ fn admit(o: Outline, numbers: &[u16], closed: bool, posts: u32, s: &[u8]) -> Mov
     ensures { λ r. ⌜ moves.answer r ≡ admitted o (now (numbers .entry)) closed posts (now (s .entry)) ⌝ }
 {
     if !outline::may_post(o) {
-        return MoveRead::Declined(decline::TURN);
+        return MoveRead::Declined(decline::OUT_OF_TURN);
     }
     if closed {
         return MoveRead::Declined(decline::CLOSED);

@@ -6,7 +6,7 @@ use mathlib.Core.Bool.{Bool, false, _&&_, _||_, cond}
 use mathlib.Core.List.{List, [], _∷_}
 use lib.Dec.{eqb, ltb}
 use lib.ListN.{length, getD, drop}
-use Rattle.amounts.specs.Decline.{Answer, check, checked, valueOr, unknown}
+use Rattle.amounts.specs.Decline.{Answer, check, checked, valueOr, noSubstance}
 use Rattle.amounts.specs.Threshold.{dueOf}
 use Rattle.amounts.specs.Treatment.{partsOf}
 use Rattle.amounts.specs.declared.treatment.Parts.{Parts}
@@ -225,7 +225,7 @@ reportBy w s =
 
 -- "declined by 12 alone, never for a substance that the book has"
 abbrev pub answerBy : Standing → ℕ → Answer Report
-answerBy w s = checked (check (ltb s (substancesOf w)) unknown ∷ []) (reportBy w s)
+answerBy w s = checked (check (ltb s (substancesOf w)) noSubstance ∷ []) (reportBy w s)
 
 -- each "less" is the difference of two sums of which the first is never the smaller
 pub record Weighed (w : Standing) (s : ℕ) : Type 0 where

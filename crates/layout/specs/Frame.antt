@@ -39,10 +39,10 @@ sumsOf s = record { plain = plainSum (take 508 s); weighted = weightedSum (take 
 -- 1 to 3
 abbrev pub frameChecks : ℕ → List ℕ → List Check
 frameChecks blocks s =
-    check (eqb (length s) 512) number.noBlock
-    ∷ check (hasTag s) number.noBlock
+    check (eqb (length s) 512) number.notABlock
+    ∷ check (hasTag s) number.notABlock
     ∷ check (eqb (le 2 (drop 508 s)) (sumsOf s .plain)) number.checkSum
     ∷ check (eqb (le 2 (drop 510 s)) (sumsOf s .weighted)) number.checkSum
-    ∷ check (within 1 3 (blockKind s)) number.blockNumber
-    ∷ check (eqb (le 2 (drop 6 s)) blocks) number.blockNumber
+    ∷ check (within 1 3 (blockKind s)) number.notNext
+    ∷ check (eqb (le 2 (drop 6 s)) blocks) number.notNext
     ∷ []

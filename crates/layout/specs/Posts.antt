@@ -26,7 +26,7 @@ postIn body = partOf postSize body
 -- 4, 5 and 6 of the block's own bytes: "Count: posts, 1–10, from byte 8", and zero behind the last post
 abbrev pub ownChecks : Outline → Bool → ℕ → List ℕ → List Check
 ownChecks o closed count body =
-    check (mayPost o) number.turn
+    check (mayPost o) number.outOfTurn
     ∷ check (not closed) number.closed
     ∷ check (eqb (length body) 500) number.layout
     ∷ check (within 1 10 count) number.layout

@@ -6,7 +6,7 @@ use lib.Dec.{eqb, leb, ltb}
 use lib.ListN.{length, getD, drop, replicate}
 use Rattle.amounts.specs.Class.{isClass}
 use Rattle.amounts.specs.Content.{countedOf}
-use Rattle.amounts.specs.Decline.{Check, check, valueOr, turn, layout}
+use Rattle.amounts.specs.Decline.{Check, check, valueOr, outOfTurn, layout}
 use Rattle.layout.specs.Bytes.{le, les, part, allZero}
 use Rattle.layout.specs.Each.{sumTo, allTo, listTo}
 use Rattle.layout.specs.Outline.{maySetUp}
@@ -82,7 +82,7 @@ bodyChecks count body =
 
 -- 4, and then 6
 abbrev pub setupChecks : Outline → ℕ → List ℕ → List Check
-setupChecks o count body = check (maySetUp o) turn ∷ check (eqb (length body) 500) layout ∷ bodyChecks count body
+setupChecks o count body = check (maySetUp o) outOfTurn ∷ check (eqb (length body) 500) layout ∷ bodyChecks count body
 
 -- each material's content of each substance, as it counts
 abbrev pub countedAll : List ℕ → List ℕ → List ℕ

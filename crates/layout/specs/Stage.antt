@@ -5,7 +5,7 @@ use mathlib.Core.List.{List, [], _∷_}
 use lib.Dec.{eqb, leb}
 use lib.ListN.{length, getD, drop}
 use Rattle.amounts.specs.Content.{isPpm}
-use Rattle.amounts.specs.Decline.{Check, check, turn, layout}
+use Rattle.amounts.specs.Decline.{Check, check, outOfTurn, layout}
 use Rattle.layout.specs.Bytes.{le, allZero}
 use Rattle.layout.specs.Each.{allTo}
 use Rattle.layout.specs.Outline.{mayDescribe}
@@ -52,7 +52,7 @@ stageBodyChecks substances body =
 -- 4, and then 6; no outline of a book has more than eight substances
 abbrev pub stageChecks : Outline → ℕ → List ℕ → List Check
 stageChecks o stage body =
-    check (mayDescribe o stage) turn
+    check (mayDescribe o stage) outOfTurn
     ∷ check (eqb (length body) 500) layout
     ∷ check (leb (o .substances) 8) layout
     ∷ stageBodyChecks (o .substances) body

@@ -71,15 +71,15 @@ pub fn check_frame(number: u32, s: &[u8]) -> Verdict
     ensures { λ r. ⌜ r ≡ verdictOf (checked (frameChecks number (now (s .entry))) (tt {0})) ⌝ }
 {
     if s.len() != 512 {
-        return Verdict::Declined(decline::NO_BLOCK);
+        return Verdict::Declined(decline::NOT_A_BLOCK);
     }
     if !has_tag(s) {
-        return Verdict::Declined(decline::NO_BLOCK);
+        return Verdict::Declined(decline::NOT_A_BLOCK);
     }
     let sums = check_sums(s);
     let own = bytes::le16(s, 6) as u32;
-    let next = row(own == number, decline::NUMBER, Verdict::Accepted);
-    let kind = row(setup::is_within(1, 3, s[4]), decline::NUMBER, next);
+    let next = row(own == number, decline::NOT_NEXT, Verdict::Accepted);
+    let kind = row(setup::is_within(1, 3, s[4]), decline::NOT_NEXT, next);
     let weighted = row(
         bytes::le16(s, 510) == sums.weighted,
         decline::CHECK_SUM,

@@ -23,5 +23,5 @@ pub fn check_posts(o: Outline, closed: bool, count: u8, body: &[u8]) -> Verdict
     let posts = row(setup::is_within(1, 10, count), decline::LAYOUT, zeros);
     let long = row(body.len() == 500, decline::LAYOUT, posts);
     let open = row(!closed, decline::CLOSED, long);
-    row(outline::may_post(o), decline::TURN, open)
+    row(outline::may_post(o), decline::OUT_OF_TURN, open)
 }

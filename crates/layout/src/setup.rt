@@ -242,7 +242,7 @@ pub fn check_setup(o: Outline, count: u8, body: &[u8]) -> Verdict
         decline::LAYOUT,
         checked_body(count, body),
     );
-    row(outline::may_set_up(o), decline::TURN, long)
+    row(outline::may_set_up(o), decline::OUT_OF_TURN, long)
 }
 
 // What a kind 1 block's body says, whatever its bytes are.

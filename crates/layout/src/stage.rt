@@ -93,5 +93,5 @@ pub fn check_stage(o: Outline, stage: u8, body: &[u8]) -> Verdict
         checked_body(o.substances, body),
     );
     let long = row(body.len() == 500, decline::LAYOUT, few);
-    row(outline::may_describe(o, stage), decline::TURN, long)
+    row(outline::may_describe(o, stage), decline::OUT_OF_TURN, long)
 }

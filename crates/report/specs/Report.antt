@@ -4,7 +4,7 @@ use mathlib.Core.Bool.{Bool, true, false}
 use mathlib.Core.List.{[], _∷_}
 use lib.Dec.{ltb}
 use lib.ListN.{getD}
-use Rattle.amounts.specs.Decline.{Answer, taken, declined, check, checked, valueOr, unknown}
+use Rattle.amounts.specs.Decline.{Answer, taken, declined, check, checked, valueOr, noSubstance}
 use Rattle.amounts.specs.Filed.{filedOf}
 use Rattle.amounts.specs.Threshold.{dueOf}
 use Rattle.layout.specs.declared.setup.Setup.{Setup}
@@ -47,7 +47,7 @@ reportAt b s = reportIn (b .setup) (b .year) s
 -- "declined by 12 alone, never for a substance that the book has"
 unfoldable pub reportOf : Book → ℕ → Answer Report
 unfolding checked lineTo
-reportOf b s = checked (check (ltb s (b .setup .outline .substances)) unknown ∷ []) (reportAt b s)
+reportOf b s = checked (check (ltb s (b .setup .outline .substances)) noSubstance ∷ []) (reportAt b s)
 
 -- what each case of the code's answer stands for
 abbrev pub answer : reported.Reported → Answer Report

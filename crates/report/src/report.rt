@@ -130,7 +130,7 @@ pub fn report_of(b: Book, place: usize) -> Reported
     let setup = site::setup_of(b);
     let o = setup.outline;
     if place >= o.substances as usize {
-        return Reported::Declined(decline::UNKNOWN);
+        return Reported::Declined(decline::NO_SUBSTANCE);
     }
     Reported::Known(report_in(setup, site::year_of(b), place))
 }

@@ -31,11 +31,11 @@ pub enum Decline {
     /// A length, kind, form, index, count, limit, order or zero place breaks the layout.
     Layout = 6,
     /// A float is not finite or outside its range.
-    Float = 7,
+    Range = 7,
     /// Form 1 or 2 names a substance without a coefficient row.
     NoRow = 8,
     /// A vapour loss exceeds 2,000,000 kg.
-    LossLimit = 9,
+    Excess = 9,
     /// 4,000 posts are accepted and this isn't the close.
     Full = 10,
     /// A store or holding is less than what leaves it.
@@ -62,9 +62,9 @@ impl Decline {
         Decline::OutOfTurn,
         Decline::Closed,
         Decline::Layout,
-        Decline::Float,
+        Decline::Range,
         Decline::NoRow,
-        Decline::LossLimit,
+        Decline::Excess,
         Decline::Full,
         Decline::Short,
         Decline::NoSubstance,
@@ -90,9 +90,9 @@ impl Decline {
             Decline::OutOfTurn => "out of the set-up's turn",
             Decline::Closed => "the book is closed",
             Decline::Layout => "the layout or a limit is broken",
-            Decline::Float => "a float is not finite or outside its range",
+            Decline::Range => "a float is not finite or outside its range",
             Decline::NoRow => "the substance has no coefficient row",
-            Decline::LossLimit => "the loss exceeds 2,000,000 kg",
+            Decline::Excess => "the loss exceeds 2,000,000 kg",
             Decline::Full => "4,000 posts are accepted",
             Decline::Short => "a store or holding is less than what leaves it",
             Decline::NoSubstance => "the book hasn't this substance",

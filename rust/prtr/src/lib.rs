@@ -186,8 +186,8 @@ pub fn due(class: Class, handled: u64) -> bool {
 /// The micrograms of a substance, by its management number, that are lost as vapour.
 ///
 /// Declines, in this order, number 0 by [`Decline::Layout`], an input that is not finite or outside its range by
-/// [`Decline::Float`], a floating or fixed roof without a coefficient row by [`Decline::NoRow`] (53, 80, 300, 392
-/// and 400 have one), and a loss above 2,000,000 kg by [`Decline::LossLimit`].
+/// [`Decline::Range`], a floating or fixed roof without a coefficient row by [`Decline::NoRow`] (53, 80, 300, 392
+/// and 400 have one), and a loss above 2,000,000 kg by [`Decline::Excess`].
 ///
 /// ```
 /// use prtr::{loss, Decline, Form};
@@ -203,7 +203,7 @@ pub fn due(class: Class, handled: u64) -> bool {
 ///
 /// // 2,000 kL at 1,001 kg each: 2,002,000 kg.
 /// let great = Form::Station { received: 2_000.0, filling: 1_001.0, dispensed: 0.0, fuelling: 0.0 };
-/// assert_eq!(loss(great, 400), Err(Decline::LossLimit));
+/// assert_eq!(loss(great, 400), Err(Decline::Excess));
 /// ```
 #[inline]
 pub fn loss(form: Form, number: u16) -> Result<u64, Decline> {
@@ -218,7 +218,7 @@ pub fn loss(form: Form, number: u16) -> Result<u64, Decline> {
 ///
 /// let (tank, content, drawn) = (14f64.to_bits(), 0.62f64.to_bits(), 36_000f64.to_bits());
 /// assert_eq!(loss_bits(1, 400, tank, content, drawn, 0), Ok(197_887_867));
-/// assert_eq!(loss_bits(1, 400, tank, content, drawn, 1), Err(Decline::Float));
+/// assert_eq!(loss_bits(1, 400, tank, content, drawn, 1), Err(Decline::Range));
 /// assert_eq!(loss_bits(4, 400, tank, content, drawn, 0), Err(Decline::Layout));
 /// ```
 #[inline]

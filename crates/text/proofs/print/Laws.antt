@@ -7,7 +7,7 @@ use native.Mathlib.Omega.{arith}
 use borrow.Author.Tests.{ltb-true, ltb-false}
 use lib.Dec.{ltb}
 use lib.ListN.{length, length-append}
-use Rattle.amounts.specs.Decline.{unknown}
+use Rattle.amounts.specs.Decline.{noSubstance}
 use Rattle.amounts.specs.declared.decline.Decline.{Decline}
 use Rattle.amounts.proofs.decline.Laws.{one-taken, one-declined}
 use Rattle.book.specs.declared.site.Book.{Book}
@@ -30,13 +30,13 @@ lines-more b n r e = rw (e, add-one)
 pub known : (b : Book) (n : ℕ) (x : Reported) (r : Report) → answer x ≡ reportOf b n → x ≡ Known r → (n < b .setup .outline .substances) × (r ≡ reportAt b n)
 unfolding reportOf
 known b n x r e k =
-    let z = one-taken (ltb n (b .setup .outline .substances)) unknown (reportAt b n) r (sym (ap answer k) ∙ e) in
+    let z = one-taken (ltb n (b .setup .outline .substances)) noSubstance (reportAt b n) r (sym (ap answer k) ∙ e) in
     (ltb-true n (b .setup .outline .substances) (z .0), z .1)
 
 pub not-known : (b : Book) (n : ℕ) (x : Reported) (d : Decline) → answer x ≡ reportOf b n → x ≡ Declined d → b .setup .outline .substances ≤ n
 unfolding reportOf
 not-known b n x d e k =
-    ltb-false n (b .setup .outline .substances) (one-declined (ltb n (b .setup .outline .substances)) unknown (reportAt b n) (d .number) (sym (ap answer k) ∙ e) .0)
+    ltb-false n (b .setup .outline .substances) (one-declined (ltb n (b .setup .outline .substances)) noSubstance (reportAt b n) (d .number) (sym (ap answer k) ∙ e) .0)
 
 -- the lines passed stand behind the title
 pub record Printed (b : Book) (l : List ℕ) (start : ℕ) (m : List ℕ) (at i : ℕ) : Type 0 where

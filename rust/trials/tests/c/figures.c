@@ -20,9 +20,9 @@ static const char *name(uint8_t status)
     case PRTR_OUT_OF_TURN: return "PRTR_OUT_OF_TURN";
     case PRTR_CLOSED: return "PRTR_CLOSED";
     case PRTR_LAYOUT: return "PRTR_LAYOUT";
-    case PRTR_FLOAT: return "PRTR_FLOAT";
+    case PRTR_RANGE: return "PRTR_RANGE";
     case PRTR_NO_ROW: return "PRTR_NO_ROW";
-    case PRTR_LOSS_LIMIT: return "PRTR_LOSS_LIMIT";
+    case PRTR_EXCESS: return "PRTR_EXCESS";
     case PRTR_FULL: return "PRTR_FULL";
     case PRTR_SHORT: return "PRTR_SHORT";
     case PRTR_NO_SUBSTANCE: return "PRTR_NO_SUBSTANCE";
