@@ -5,17 +5,13 @@ use mathlib.Core.Bool.{false}
 use mathlib.Core.List.{List}
 use lib.ListN.{length, getD, replicate}
 use Rattle.layout.specs.Each.{sumTo}
-use Rattle.layout.specs.Outline.{mayPost}
+use Rattle.layout.specs.Outline.{freshOutline, mayPost}
 use Rattle.layout.specs.Setup.{noRates}
-use Rattle.layout.specs.declared.outline.Outline.{Outline}
 use Rattle.layout.specs.declared.setup.Rates.{Rates}
 use Rattle.layout.specs.declared.setup.Setup.{Setup}
 use Rattle.book.specs.Ledger.{brings, total}
 use Rattle.book.specs.declared.site.Book.{Book}
 use Rattle.book.specs.declared.site.Year.{Year}
-
-abbrev pub freshOutline : Outline
-freshOutline = record { substances = 0; materials = 0; stages = 0; described = 0 }
 
 abbrev pub freshSetup : Setup
 freshSetup =

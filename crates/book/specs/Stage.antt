@@ -4,6 +4,7 @@ use mathlib.Core.List.{List}
 use lib.ListN.{getD, drop, set}
 use Rattle.amounts.specs.Decline.{Answer, checked}
 use Rattle.layout.specs.Each.{putTo}
+use Rattle.layout.specs.Outline.{withDescribed}
 use Rattle.layout.specs.Stage.{sideRow, rateRow, stageChecks}
 use Rattle.layout.specs.declared.setup.Setup.{Setup}
 
@@ -25,13 +26,7 @@ withPairs u base s n =
 abbrev pub staged : Setup → ℕ → List ℕ → Setup
 staged u stage body =
     record {
-      outline =
-          record {
-            substances = u .outline .substances;
-            materials = u .outline .materials;
-            stages = u .outline .stages;
-            described = stage + 1;
-          };
+      outline = withDescribed (u .outline) stage;
       numbers = u .numbers;
       classes = u .classes;
       counted = u .counted;

@@ -1,9 +1,9 @@
 -- Stored numbers and zero places (document 01, "Amounts": "Stored numbers are little-endian").
-use Prim.Native.Nat.{ℕ, zero, suc, _+_, _-_, _*_}
+use Prim.Native.Nat.{ℕ, zero, suc, _+_, _-_, _*_, _/_, _%_}
 use mathlib.Core.Bool.{Bool}
-use mathlib.Core.List.{List, [], _∷_}
+use mathlib.Core.List.{List, [], _∷_, _++_}
 use lib.Dec.{eqb}
-use lib.ListN.{length, getD, take, drop}
+use lib.ListN.{length, getD, take, drop, replicate}
 use Rattle.layout.specs.Each.{allTo, listTo}
 
 -- the number that the first n bytes are, the lowest first; a byte that is missing counts as 0
@@ -23,3 +23,12 @@ part from to s = take (to - from) (drop from s)
 -- each byte is zero
 abbrev pub allZero : List ℕ → Bool
 allZero s = allTo (length s) (λ i. eqb (getD s i 0) 0)
+
+-- n bytes that store a number, the lowest first
+unfoldable pub bytesOf : ℕ → ℕ → List ℕ
+bytesOf zero x = []
+bytesOf (suc n) x = x % 256 ∷ bytesOf n (x / 256)
+
+-- bytes with zeros behind them, n in all
+abbrev pub padded : ℕ → List ℕ → List ℕ
+padded n s = s ++ replicate (n - length s) 0

@@ -1,12 +1,12 @@
 -- A block's frame (document 01, "Journal blocks" and "Why a call is declined, in checking order"): its tag, check sums, kind and number.
 use Prim.Native.Nat.{ℕ, _+_, _*_, _%_}
 use mathlib.Core.Bool.{Bool, _&&_}
-use mathlib.Core.List.{List, [], _∷_}
+use mathlib.Core.List.{List, [], _∷_, _++_}
 use lib.Dec.{eqb}
 use lib.ListN.{length, getD, take, drop}
 use Rattle.amounts.specs.Decline as number
 use Rattle.amounts.specs.Decline.{Check, check}
-use Rattle.layout.specs.Bytes.{le, part}
+use Rattle.layout.specs.Bytes.{le, part, bytesOf}
 use Rattle.layout.specs.Each.{sumTo}
 use Rattle.layout.specs.Setup.{within}
 use Rattle.layout.specs.declared.frame.CheckSums.{CheckSums}
@@ -46,3 +46,19 @@ frameChecks blocks s =
     ∷ check (within 1 3 (blockKind s)) number.notNext
     ∷ check (eqb (le 2 (drop 6 s)) blocks) number.notNext
     ∷ []
+
+-- ---- a block made
+
+-- "0–3 "PRTR" in ASCII; 4 kind; 5 count; 6–7 blocks accepted so far"
+abbrev pub headOf : ℕ → ℕ → ℕ → List ℕ
+headOf kind count number = 80 ∷ 82 ∷ 84 ∷ 82 ∷ kind ∷ count ∷ bytesOf 2 number
+
+-- bytes with their check sums behind them
+unfoldable pub summed : List ℕ → List ℕ
+unfolding bytesOf plainSum weightedSum
+summed s = s ++ (bytesOf 2 (plainSum s) ++ bytesOf 2 (weightedSum s))
+
+-- the block of a kind, a count, a number and a body of 500 bytes
+unfoldable pub blockOf : ℕ → ℕ → ℕ → List ℕ → List ℕ
+unfolding bytesOf summed
+blockOf kind count number body = summed (headOf kind count number ++ body)

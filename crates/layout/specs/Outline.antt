@@ -1,8 +1,16 @@
 -- Turns (document 01, "Journal blocks" and decline 4).
-use Prim.Native.Nat.{ℕ}
+use Prim.Native.Nat.{ℕ, _+_}
 use mathlib.Core.Bool.{Bool, not, _&&_}
 use lib.Dec.{eqb, ltb}
 use Rattle.layout.specs.declared.outline.Outline.{Outline}
+
+-- before any set-up
+abbrev pub freshOutline : Outline
+freshOutline = record { substances = 0; materials = 0; stages = 0; described = 0 }
+
+-- with a stage described
+abbrev pub withDescribed : Outline → ℕ → Outline
+withDescribed o stage = record { substances = o .substances; materials = o .materials; stages = o .stages; described = stage + 1 }
 
 -- "Kind 1, first, once": a book has substances from then on
 abbrev pub maySetUp : Outline → Bool

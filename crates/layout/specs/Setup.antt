@@ -92,10 +92,13 @@ countedAll classes contents = listTo 96 (λ i. valueOr 0 (countedOf (getD classe
 abbrev pub noRates : Rates
 noRates = record { «gas_removal» = 0; «gas_destruction» = 0; «water_removal» = 0; «water_destruction» = 0 }
 
+abbrev pub outlineOf : ℕ → List ℕ → Outline
+outlineOf count body = record { substances = count; materials = materialsIn body; stages = stagesIn body; described = 0 }
+
 abbrev pub setupOf : ℕ → List ℕ → Setup
 setupOf count body =
     record {
-      outline = record { substances = count; materials = materialsIn body; stages = stagesIn body; described = 0 };
+      outline = outlineOf count body;
       numbers = numbersIn body;
       classes = classesIn body;
       counted = countedAll (classesIn body) (contentsIn body);

@@ -3,7 +3,7 @@ ghost use mathlib.Core.Path.{_≡_};
 ghost use Rattle.amounts.specs.Content.{countedOf};
 ghost use Rattle.amounts.specs.Decline.{checked, valueOr};
 ghost use Rattle.layout.specs.Verdict.{verdictOf};
-ghost use Rattle.layout.specs.Setup.{within, numbersIn, classesIn, contentsIn, countedAll, setupOf};
+ghost use Rattle.layout.specs.Setup.{within, numbersIn, classesIn, contentsIn, countedAll, outlineOf, setupOf};
 ghost use Rattle.layout.specs.Setup.{rising, allClasses, rowSum, rowFits, rowsFit, materialChecks, substanceChecks, bodyChecks, setupChecks};
 use crate::bytes;
 use crate::outline;
@@ -245,21 +245,29 @@ pub fn check_setup(o: Outline, count: u8, body: &[u8]) -> Verdict
     row(outline::may_set_up(o), decline::OUT_OF_TURN, long)
 }
 
+// How far a kind 1 block's body brings the set-up.
+pub fn outline_of(count: u8, body: &[u8]) -> Outline
+    ensures { λ r. ⌜ r ≡ outlineOf count (now (body .entry)) ⌝ }
+{
+    Outline {
+        substances: count,
+        materials: bytes::byte_at(body, 0),
+        stages: bytes::byte_at(body, 1),
+        described: 0,
+    }
+}
+
 // What a kind 1 block's body says, whatever its bytes are.
 pub fn parse(count: u8, body: &[u8]) -> Setup
     ensures { λ r. ⌜ r ≡ setupOf count (now (body .entry)) ⌝ }
 {
+    let outline = outline_of(count, body);
     let numbers = numbers_in(body);
     let classes = classes_in(body);
     let contents = contents_in(body);
     let counted = counted_all(&classes, &contents);
     Setup {
-        outline: Outline {
-            substances: count,
-            materials: bytes::byte_at(body, 0),
-            stages: bytes::byte_at(body, 1),
-            described: 0,
-        },
+        outline,
         numbers,
         classes,
         counted,

@@ -2,8 +2,9 @@
 use mathlib.Core.Path.{_≡_, sym, ap, _∙_}
 use mathlib.Core.Bool.{Bool, true, false}
 use mathlib.Core.List.{List}
+use Rattle.layout.specs.declared.outline.Outline.{Outline}
 use Rattle.layout.specs.declared.setup.Setup.{Setup}
-use Rattle.layout.specs.Setup.{within, materialsIn, stagesIn, noRates, numbersIn, classesIn, contentsIn, countedAll, setupOf, numberAt, before, rising}
+use Rattle.layout.specs.Setup.{within, noRates, numbersIn, classesIn, contentsIn, countedAll, outlineOf, setupOf, numberAt, before, rising}
 use Prim.Native.Nat.{ℕ, _+_, _*_, _≤_, _<_}
 use native.Mathlib.Numerals.{add-one}
 use native.Mathlib.Omega.{arith}
@@ -47,10 +48,10 @@ module _ (n : ℕ) (s : List ℕ) (i last x : ℕ) (was : last ≡ before s i) (
 
 -- ---- the set-up read
 
-abbrev read : ℕ → ℕ → ℕ → List ℕ → List ℕ → List ℕ → Setup
-read count materials stages numbers classes counted =
+abbrev read : Outline → List ℕ → List ℕ → List ℕ → Setup
+read outline numbers classes counted =
     record {
-      outline = record { substances = count; materials = materials; stages = stages; described = 0 };
+      outline = outline;
       numbers = numbers;
       classes = classes;
       counted = counted;
@@ -60,12 +61,11 @@ read count materials stages numbers classes counted =
       rates = replicate 64 noRates;
     }
 
-pub parsed : (count materials stages : ℕ) (body numbers classes contents counted : List ℕ) → materials ≡ materialsIn body → stages ≡ stagesIn body
+pub parsed : (count : ℕ) (outline : Outline) (body numbers classes contents counted : List ℕ) → outline ≡ outlineOf count body
     → numbers ≡ numbersIn body → classes ≡ classesIn body → contents ≡ contentsIn body → counted ≡ countedAll classes contents
-    → read count materials stages numbers classes counted ≡ setupOf count body
-parsed count materials stages body numbers classes contents counted m k p q r e =
-    ap (λ n. read count n stages numbers classes counted) m
-    ∙ ap (λ n. read count (materialsIn body) n numbers classes counted) k
-    ∙ ap (λ l. read count (materialsIn body) (stagesIn body) l classes counted) p
-    ∙ ap (λ l. read count (materialsIn body) (stagesIn body) (numbersIn body) l counted) q
-    ∙ ap (λ l. read count (materialsIn body) (stagesIn body) (numbersIn body) (classesIn body) l) (e ∙ ap (λ l. countedAll l contents) q ∙ ap (countedAll (classesIn body)) r)
+    → read outline numbers classes counted ≡ setupOf count body
+parsed count outline body numbers classes contents counted o p q r e =
+    ap (λ (x : Outline). read x numbers classes counted) o
+    ∙ ap (λ l. read (outlineOf count body) l classes counted) p
+    ∙ ap (λ l. read (outlineOf count body) (numbersIn body) l counted) q
+    ∙ ap (λ l. read (outlineOf count body) (numbersIn body) (classesIn body) l) (e ∙ ap (λ l. countedAll l contents) q ∙ ap (countedAll (classesIn body)) r)

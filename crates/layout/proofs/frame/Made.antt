@@ -1,0 +1,99 @@
+-- A block that is made passes the checks of its frame, and tells what it was made of. Assumes nothing.
+use mathlib.Core.Path.{_≡_, refl, sym, ap, _∙_}
+use mathlib.Core.Bool.{true}
+use mathlib.Core.List.{List, [], _∷_, _++_}
+use Prim.Native.Nat.{ℕ, _+_, _*_, _/_, _%_, _≤_, _<_}
+use native.Mathlib.Omega.{arith}
+use borrow.Author.Tests.{eq-eqb}
+use lib.ListN.{length, take, drop, length-append}
+use lib.Seq.{take-at, drop-at, drop-drop}
+use Rattle.amounts.specs.Decline.{taken, checked}
+use Rattle.layout.specs.Bytes.{le, bytesOf}
+use Rattle.layout.specs.Frame.{hasTag, blockKind, countOf, bodyOf, plainSum, weightedSum, sumsOf, frameChecks, headOf, summed, blockOf}
+use Rattle.layout.specs.Setup.{within}
+
+-- two bytes that store a number tell it again, whatever stands behind them
+pub two-told : (n : ℕ) (s : List ℕ) → n < 65536 → le 2 (bytesOf 2 n ++ s) ≡ n
+unfolding le bytesOf
+two-told n s h = omega arith
+
+nothing-behind : (l : List ℕ) → l ++ [] ≡ l
+nothing-behind [] = refl
+nothing-behind (x ∷ l) = ap (λ (m : List ℕ). x ∷ m) (nothing-behind l)
+
+plain-small : (s : List ℕ) → plainSum s < 65536
+unfolding plainSum
+plain-small s = omega arith
+
+weighted-small : (s : List ℕ) → weightedSum s < 65536
+unfolding weightedSum
+weighted-small s = omega arith
+
+module _ (s : List ℕ) (long : length s ≡ 508) where
+  first-is : take 508 (summed s) ≡ s
+  unfolding summed
+  first-is = take-at s (bytesOf 2 (plainSum s) ++ bytesOf 2 (weightedSum s)) 508 long
+
+  last-is : drop 508 (summed s) ≡ bytesOf 2 (plainSum s) ++ bytesOf 2 (weightedSum s)
+  unfolding summed
+  last-is = drop-at s (bytesOf 2 (plainSum s) ++ bytesOf 2 (weightedSum s)) 508 long
+
+  plain-told : le 2 (drop 508 (summed s)) ≡ sumsOf (summed s) .plain
+  plain-told = ap (le 2) last-is ∙ two-told (plainSum s) (bytesOf 2 (weightedSum s)) (plain-small s) ∙ ap plainSum (sym first-is)
+
+  weighted-told : le 2 (drop 510 (summed s)) ≡ sumsOf (summed s) .weighted
+  unfolding bytesOf
+  weighted-told =
+      ap (le 2) (sym (drop-drop 2 508 (summed s)) ∙ ap (drop 2) last-is ∙ sym (nothing-behind (bytesOf 2 (weightedSum s))))
+      ∙ two-told (weightedSum s) [] (weighted-small s) ∙ ap weightedSum (sym first-is)
+
+  summed-long : length (summed s) ≡ 512
+  unfolding summed bytesOf
+  summed-long = length-append s (bytesOf 2 (plainSum s) ++ bytesOf 2 (weightedSum s)) ∙ ap (λ (n : ℕ). n + 4) long
+
+module _ (kind count number : ℕ) (body : List ℕ) where
+  abbrev made : List ℕ
+  made = blockOf kind count number body
+
+  pub kind-made : blockKind made ≡ kind
+  unfolding blockOf summed
+  kind-made = refl
+
+  pub count-made : countOf made ≡ count
+  unfolding blockOf summed
+  count-made = refl
+
+  module _ (long : length body ≡ 500) where
+    before-long : length (headOf kind count number ++ body) ≡ 508
+    unfolding bytesOf
+    before-long = omega (arith, length-append (headOf kind count number) body)
+
+    pub made-long : length made ≡ 512
+    unfolding blockOf
+    made-long = summed-long (headOf kind count number ++ body) before-long
+
+    pub body-made : bodyOf made ≡ body
+    unfolding blockOf summed bytesOf
+    body-made = take-at body _ 500 long
+
+    tag-made : hasTag made ≡ true
+    unfolding blockOf summed
+    tag-made = refl
+
+    number-made : number < 65536 → le 2 (drop 6 made) ≡ number
+    unfolding blockOf summed bytesOf
+    number-made n = two-told number _ n
+
+    plain-made : le 2 (drop 508 made) ≡ sumsOf made .plain
+    unfolding blockOf
+    plain-made = plain-told (headOf kind count number ++ body) before-long
+
+    weighted-made : le 2 (drop 510 made) ≡ sumsOf made .weighted
+    unfolding blockOf
+    weighted-made = weighted-told (headOf kind count number ++ body) before-long
+
+    -- 1 to 3
+    pub made-passes : {A : Type 0} (a : A) → within 1 3 kind ≡ true → number < 65536 → checked (frameChecks number made) a ≡ taken a
+    unfolding checked
+    made-passes a k n =
+        rw (eq-eqb _ _ made-long, tag-made, eq-eqb _ _ plain-made, eq-eqb _ _ weighted-made, ap (within 1 3) kind-made ∙ k, eq-eqb _ _ (number-made n))

@@ -1,0 +1,6 @@
+pub mod Frame
+pub mod Tally
+pub mod Page
+pub mod Writer
+pub mod Calls
+pub mod Journal

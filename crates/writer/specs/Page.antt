@@ -1,0 +1,102 @@
+-- What a writer has, as a page: the lent buffer's bytes, how many are filled, and the block being filled; and what its calls make of it (document 02, (a)).
+use Prim.Native.Nat.{ℕ, _+_, _*_, _≤_, _<_}
+use mathlib.Core.Path.{_≡_}
+use mathlib.Core.Bool.{Bool, true, cond}
+use mathlib.Core.List.{List}
+use lib.Dec.{eqb}
+use lib.ListN.{length, replicate}
+use Rattle.amounts.specs.Decline.{Answer, taken, checked, onTaken, valueOr}
+use Rattle.layout.specs.Frame.{bodyOf, blockOf}
+use Rattle.layout.specs.Outline.{mayPost}
+use Rattle.layout.specs.Verdict.{verdictOf}
+use Rattle.layout.specs.declared.verdict.Verdict.{Verdict}
+use Rattle.writer.specs.Frame.{placed}
+use Rattle.writer.specs.Tally as tally
+use Rattle.writer.specs.Tally.{setUpChecks, postAnswer}
+use Rattle.writer.specs.declared.draft.Draft.{Draft}
+use Rattle.writer.specs.declared.tally.Tally.{Tally}
+
+-- ---- the block being filled
+
+abbrev pub draftOf : Tally → List ℕ → Draft
+draftOf t block = record { tally = t; block = block }
+
+-- a block of zeros
+abbrev pub freshDraft : Tally → Draft
+freshDraft t = draftOf t (replicate 512 0)
+
+-- "from byte 8": a post goes behind those that wait
+abbrev pub postPlace : Tally → ℕ
+postPlace t = 8 + t .waiting * 48
+
+abbrev pub withPost : Draft → List ℕ → List ℕ
+withPost d s = placed (d .block) (postPlace (d .tally)) s
+
+-- the block that so many of its posts make
+abbrev pub postsBlock : ℕ → ℕ → List ℕ → List ℕ
+postsBlock count number block = blockOf 3 count number (bodyOf block)
+
+-- ---- the page
+
+pub record Page : Type 0 where
+  pub bytes : List ℕ
+  pub filled : ℕ
+  pub draft : Draft
+
+abbrev pub pageOf : List ℕ → ℕ → Draft → Page
+pageOf bytes filled d = record { bytes = bytes; filled = filled; draft = d }
+
+-- "A new writer has filled 0 bytes"
+abbrev pub freshPage : List ℕ → Page
+freshPage lent = pageOf lent 0 (freshDraft tally.freshTally)
+
+-- a block behind what is filled; all other bytes stay
+abbrev pub withBlock : Page → List ℕ → Draft → Page
+withBlock p block d = pageOf (placed (p .bytes) (p .filled) block) (p .filled + 512) d
+
+-- the block of the posts that wait is written, and the next one is zero
+abbrev pub turned : Page → ℕ → List ℕ → Page
+turned p count block = withBlock p (postsBlock count (p .draft .tally .blocks) block) (freshDraft (tally.turned (p .draft .tally)))
+
+-- "A tenth post writes its block"
+unfoldable pub posted : Page → List ℕ → Page
+unfolding tally.posted
+posted p s =
+    cond (eqb (p .draft .tally .waiting) 9) (turned p 10 (withPost (p .draft) s))
+    (pageOf (p .bytes) (p .filled) (draftOf (tally.posted (p .draft .tally)) (withPost (p .draft) s)))
+
+unfoldable pub postOn : Page → List ℕ → Answer Page
+unfolding postAnswer posted
+postOn p s = onTaken (postAnswer (length (p .bytes)) (p .draft .tally) s) (λ _. taken (posted p s))
+
+unfoldable pub setUpOn : Page → ℕ → ℕ → List ℕ → Answer Page
+unfolding checked tally.setUp blockOf
+setUpOn p kind count body =
+    checked (setUpChecks (length (p .bytes)) (p .draft .tally) kind count body)
+    (withBlock p (blockOf kind count (p .draft .tally .blocks) body) (draftOf (tally.setUp (p .draft .tally) kind count body) (p .draft .block)))
+
+-- "ending with no post waiting writes nothing"
+unfoldable pub ended : Page → Page
+ended p = cond (eqb (p .draft .tally .waiting) 0) p (turned p (p .draft .tally .waiting) (p .draft .block))
+
+-- ---- what is true of every writer
+
+-- a block that is begun has its room, and its posts are in their turn
+pub record Begun (p : Page) : Type 0 where
+  pub number : p .draft .tally .blocks < 65536
+  pub room : p .filled + 512 ≤ length (p .bytes)
+  pub in-turn : mayPost (p .draft .tally .outline) ≡ true
+
+pub record Sound (p : Page) : Type 0 where
+  pub few : p .draft .tally .waiting < 10
+  pub blocks-few : p .draft .tally .blocks ≤ 65536
+  pub filled-is : p .filled ≡ p .draft .tally .blocks * 512
+  pub within : p .filled ≤ length (p .bytes)
+  pub begun : 0 < p .draft .tally .waiting → Begun p
+
+-- what a call answers, and the page after it: as it was where the call is declined
+pub record Answers (p : Page) (a : Answer Page) (v : Verdict) (q : Page) : Type 0 where
+  pub verdict : v ≡ verdictOf a
+  pub after : q ≡ valueOr p a
+  pub size : length (q .bytes) ≡ length (p .bytes)
+  pub sound : Sound q
