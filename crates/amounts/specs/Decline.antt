@@ -56,6 +56,10 @@ short = 11
 abbrev pub noSubstance : ℕ
 noSubstance = 12
 
+-- 13, a set-up block or a post that begins a block finds fewer than 512 bytes left or 65,536 blocks written
+abbrev pub noRoom : ℕ
+noRoom = 13
+
 -- a test, and the number of the decline where it fails
 pub data Check : Type 0 where
   check : Bool → ℕ → Check

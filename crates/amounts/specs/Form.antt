@@ -5,7 +5,7 @@ use mathlib.Core.List.{[], _∷_}
 use lib.Dec.{eqb}
 use lib.Ieee.{Float}
 use Rattle.amounts.specs.Decline as decline
-use Rattle.amounts.specs.Decline.{Answer, taken, declined, check, checked, layout}
+use Rattle.amounts.specs.Decline.{Answer, taken, declined, check, checked, isTaken, layout}
 use Rattle.amounts.specs.Pattern.{_to_, inRange}
 use Rattle.amounts.specs.declared.form.Ranges.{Ranges}
 use Rattle.amounts.specs.declared.form.Inputs.{Inputs}
@@ -47,6 +47,11 @@ formOf n w u p q =
     cond (eqb n 1) (ranged floatingRanges w u p q (FloatingRoof w u p))
     (cond (eqb n 2) (ranged fixedRanges w u p q (FixedRoof w u p q))
     (cond (eqb n 3) (ranged stationRanges w u p q (Station w u p q)) (declined layout)))
+
+-- whether four floats are in the ranges of the form of a number; a number that is no form has none
+unfoldable pub inForm : ℕ → Float → Float → Float → Float → Bool
+unfolding formOf
+inForm n w u p q = isTaken (formOf n w u p q)
 
 -- the four floats of a form
 unfoldable pub inputsOf : Ranges → Float → Float → Float → Float → Answer Inputs

@@ -40,3 +40,6 @@ pub const SHORT: Decline = Decline { number: 11 };
 
 // A report names a substance that the book hasn't.
 pub const NO_SUBSTANCE: Decline = Decline { number: 12 };
+
+// A set-up block or a post that begins a block finds fewer than 512 bytes left or 65,536 blocks written.
+pub const NO_ROOM: Decline = Decline { number: 13 };

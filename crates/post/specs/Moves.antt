@@ -7,7 +7,7 @@ use lib.ListN.{length, getD}
 use Rattle.amounts.specs.Binary64.{valueOf}
 use Rattle.amounts.specs.Coefficient.{rowOf}
 use Rattle.amounts.specs.Decline.{Answer, taken, declined, check, checked, onTaken, valueOr, layout, range}
-use Rattle.amounts.specs.Form.{unusedRanges, inRanges}
+use Rattle.amounts.specs.Form.{unusedRanges, inRanges, inForm}
 use Rattle.amounts.specs.Loss.{lossOver}
 use Rattle.layout.specs.Posts.{postSize}
 use Rattle.layout.specs.declared.outline.Outline.{Outline}
@@ -18,6 +18,9 @@ use Rattle.post.specs.declared.kind.Does.{Does}
 use Rattle.post.specs.declared.kind.Does.the-variants.{Receives, Issues, Brings, Leaves, Closes}
 use Rattle.post.specs.declared.kind.Measure.{Measure}
 use Rattle.post.specs.declared.kind.Measure.the-variants.{Quantity, Content, Loss}
+use Rattle.post.specs.declared.moves.Laid.{Laid}
+use Rattle.post.specs.declared.moves.LaidRead.{LaidRead}
+use Rattle.post.specs.declared.moves.LaidRead.the-variants as laid
 use Rattle.post.specs.declared.moves.Move.{Move}
 use Rattle.post.specs.declared.moves.Move.the-variants.{Received, Issued, Brought, Gone, Close}
 use Rattle.post.specs.declared.moves.MoveRead.{MoveRead}
@@ -55,6 +58,17 @@ laidOut o s =
     onTaken (checked (check (eqb (length s) postSize) layout ∷ []) (postAt s)) (λ p.
     onTaken (kindOf (p .kind)) (λ k. checked (check (fieldsFit (k .limits o) p) layout ∷ []) k))
 
+-- 7 of a post, by its kind's measure: "an unused float has zero as its whole range", and a loss has the ranges of its form
+abbrev pub floatsFit : Measure → Post → Bool
+floatsFit Quantity p = floatsUnused p
+floatsFit Content p = floatsUnused p
+floatsFit Loss p = inForm (p .material) (valueOf (p .w)) (valueOf (p .u)) (valueOf (p .p)) (valueOf (p .q))
+
+-- 6 and 7 of a post's bytes, which need no book
+unfoldable pub wellFormed : Outline → List ℕ → Answer Row
+unfolding laidOut checked
+wellFormed o s = onTaken (laidOut o s) (λ k. checked (check (floatsFit (k .measure) (postAt s)) range ∷ []) k)
+
 -- 6 to 9: what the bytes of a post move
 unfoldable pub moveAt : Outline → List ℕ → List ℕ → Answer Move
 unfolding laidOut measured
@@ -64,7 +78,20 @@ moveAt o numbers s = onTaken (laidOut o s) (λ k. moveIn k numbers (postAt s))
 abbrev pub said : List ℕ → List ℕ → Move
 said numbers s = valueOr Close (onTaken (kindOf (postAt s .kind)) (λ k. moveIn k numbers (postAt s)))
 
--- what each case of the code's answer stands for
+-- ---- what the code has of a post in its layout
+
+abbrev pub laidAs : Post → Row → Laid
+laidAs p k = record { post = p; measure = k .measure; does = k .does }
+
+abbrev pub laidOf : Post → Answer Row → Answer Laid
+laidOf p (taken k) = taken (laidAs p k)
+laidOf p (declined n) = declined n
+
+-- what each case of the code's answers stands for
+abbrev pub laidAnswer : LaidRead → Answer Laid
+laidAnswer (laid.Known l) = taken l
+laidAnswer (laid.Declined d) = declined (d .number)
+
 abbrev pub answer : MoveRead → Answer Move
 answer (read.Known m) = taken m
 answer (read.Declined d) = declined (d .number)

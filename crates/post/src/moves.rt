@@ -6,7 +6,9 @@ ghost use lib.ListN.{getD};
 ghost use Rattle.amounts.specs.Decline.{check, checked, range};
 ghost use Rattle.amounts.specs.Loss as losses;
 ghost use Rattle.post.specs.declared.kind.Measure.the-variants.{Content};
-ghost use Rattle.post.specs.Moves.{floatsUnused, measured, moveOf, moveAt, answer};
+ghost use Rattle.layout.specs.Verdict.{verdictOf};
+ghost use Rattle.post.specs.Fields.{postAt};
+ghost use Rattle.post.specs.Moves.{floatsUnused, floatsFit, measured, moveOf, laidOut, wellFormed, moveAt, laidOf, laidAnswer, answer};
 use crate::fields;
 use crate::fields::Post;
 use crate::kind;
@@ -21,6 +23,7 @@ use amounts::loss::Loss;
 use amounts::pattern;
 use layout::outline::Outline;
 use layout::posts::POST_SIZE;
+use layout::verdict::Verdict;
 
 // Received into a store; issued from a store to a stage's holdings; brought to an account from outside; gone from a holding to an
 // account; the close. Grams of a material, micrograms of a substance.
@@ -47,6 +50,18 @@ pub enum Move {
         amount: u64,
     },
     Close,
+}
+
+// A post in its layout: its fields, how its amount is measured, and what it does.
+struct Laid {
+    post: Post,
+    measure: Measure,
+    does: Does,
+}
+
+enum LaidRead {
+    Known(Laid),
+    Declined(Decline),
 }
 
 pub enum MoveRead {
@@ -133,25 +148,72 @@ fn move_of(does: Does, p: Post, n: u64) -> Move
     }
 }
 
+// The post that bytes lay out, by an outline: declined by 6.
+fn read_post(o: Outline, s: &[u8]) -> LaidRead
+    ensures { λ r. ⌜ laidAnswer r ≡ laidOf (postAt (now (s .entry))) (laidOut o (now (s .entry))) ⌝ }
+{
+    if s.len() != POST_SIZE {
+        return LaidRead::Declined(decline::LAYOUT);
+    }
+    let p = fields::decode(s);
+    let KindRead::Known(k) = kind::kind_of(o, p.kind) else {
+        return LaidRead::Declined(decline::LAYOUT);
+    };
+    let limits = k.limits;
+    if !kind::fields_fit(limits, p) {
+        return LaidRead::Declined(decline::LAYOUT);
+    }
+    let by = k.measure;
+    let does = k.does;
+    LaidRead::Known(Laid {
+        post: p,
+        measure: by,
+        does,
+    })
+}
+
+// Whether each float is in its range, by the measure of the post's kind.
+fn floats_fit(m: Measure, p: Post) -> bool
+    ensures { λ r. ⌜ r ≡ floatsFit m p ⌝ }
+{
+    match m {
+        Measure::Quantity => has_no_floats(p),
+        Measure::Content => has_no_floats(p),
+        Measure::Loss => loss::in_form(p.material, p.w, p.u, p.p, p.q),
+    }
+}
+
+// Whether the bytes of a post are well formed, by an outline: declined by 6 and 7, which need no book.
+pub fn check_post(o: Outline, s: &[u8]) -> Verdict
+    ensures { λ r. ⌜ r ≡ verdictOf (wellFormed o (now (s .entry))) ⌝ }
+{
+    match read_post(o, s) {
+        LaidRead::Known(l) => {
+            let p = l.post;
+            let by = l.measure;
+            if floats_fit(by, p) {
+                return Verdict::Accepted;
+            }
+            Verdict::Declined(decline::RANGE)
+        }
+        LaidRead::Declined(d) => Verdict::Declined(d),
+    }
+}
+
 // What the bytes of a post move, by an outline and the management numbers: declined by 6 to 9.
 pub fn read_move(o: Outline, numbers: &[u16], s: &[u8]) -> MoveRead
     ensures { λ r. ⌜ answer r ≡ moveAt o (now (numbers .entry)) (now (s .entry)) ⌝ }
 {
-    if s.len() != POST_SIZE {
-        return MoveRead::Declined(decline::LAYOUT);
-    }
-    let p = fields::decode(s);
-    let KindRead::Known(k) = kind::kind_of(o, p.kind) else {
-        return MoveRead::Declined(decline::LAYOUT);
-    };
-    let limits = k.limits;
-    let by = k.measure;
-    let does = k.does;
-    if !kind::fields_fit(limits, p) {
-        return MoveRead::Declined(decline::LAYOUT);
-    }
-    match measure(by, numbers, p) {
-        Loss::Micrograms(n) => MoveRead::Known(move_of(does, p, n)),
-        Loss::Declined(d) => MoveRead::Declined(d),
+    match read_post(o, s) {
+        LaidRead::Known(l) => {
+            let p = l.post;
+            let by = l.measure;
+            let does = l.does;
+            match measure(by, numbers, p) {
+                Loss::Micrograms(n) => MoveRead::Known(move_of(does, p, n)),
+                Loss::Declined(d) => MoveRead::Declined(d),
+            }
+        }
+        LaidRead::Declined(d) => MoveRead::Declined(d),
     }
 }

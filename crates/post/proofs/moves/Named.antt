@@ -1,36 +1,31 @@
 -- What leaves a holding goes to another account. Assumes nothing.
-use mathlib.Core.Path.{_≡_, sym, ap, subst, _∙_}
+use mathlib.Core.Path.{_≡_, subst}
 use mathlib.Core.Bool.{Bool, true, false}
 use mathlib.Core.List.{List, [], _∷_}
 use Prim.Native.Nat.{ℕ, _≤_}
 use native.Mathlib.Omega.{arith}
 use lib.Dec.{eqb}
-use lib.ListN.{length}
-use Rattle.amounts.specs.Decline.{Answer, taken, declined, check, checked, onTaken, layout, valueOr}
-use Rattle.amounts.proofs.decline.Laws.{one-taken, was-taken}
+use Rattle.amounts.specs.Decline.{Answer, taken, declined, onTaken, valueOr}
+use Rattle.amounts.proofs.decline.Laws.{was-taken}
 use Rattle.layout.specs.declared.outline.Outline.{Outline}
 use Rattle.post.specs.Fields.{postAt}
-use Rattle.post.specs.Kind.{Row, rows, rowIf, find, fieldsFit, kindOf}
+use Rattle.post.specs.Kind.{Row, rows, rowIf, find, kindOf}
 use Rattle.post.specs.Moves.{measured, moveOf, moveIn, laidOut, moveAt, said}
 use Rattle.post.specs.declared.fields.Post.{Post}
 use Rattle.post.specs.declared.kind.Does.{Does}
 use Rattle.post.specs.declared.kind.Does.the-variants.{Receives, Issues, Brings, Leaves, Closes}
 use Rattle.post.specs.declared.moves.Move.{Move}
 use Rattle.post.specs.declared.moves.Move.the-variants.{Received, Issued, Brought, Gone, Close}
+use Rattle.post.proofs.moves.Laws.{row-laid}
 
 -- ---- the row of a move that is read
 
 pub row-read : (o : Outline) (numbers s : List ℕ) (m : Move) → moveAt o numbers s ≡ taken m
     → (r : Row) × (kindOf (postAt s .kind) ≡ taken r) × (moveIn r numbers (postAt s) ≡ taken m)
-unfolding moveAt laidOut
+unfolding moveAt
 row-read o numbers s m e =
-    let p = postAt s in
-    let a = was-taken (laidOut o s) (λ k. moveIn k numbers p) m e in
-    let b = was-taken (checked (check (eqb (length s) 48) layout ∷ []) p) (λ q. onTaken (kindOf (q .kind)) (λ k. checked (check (fieldsFit (k .limits o) q) layout ∷ []) k)) (a .0) (a .1) in
-    let same : b .0 ≡ p = one-taken (eqb (length s) 48) layout p (b .0) (sym {a = checked (check (eqb (length s) 48) layout ∷ []) p} (b .1)) .1 in
-    let c = was-taken (kindOf (b .0 .kind)) (λ k. checked (check (fieldsFit (k .limits o) (b .0)) layout ∷ []) k) (a .0) (b .2) in
-    let d = one-taken (fieldsFit (c .0 .limits o) (b .0)) layout (c .0) (a .0) (sym (c .2)) in
-    (a .0, ap (λ (q : Post). kindOf (q .kind)) (sym same) ∙ c .1 ∙ ap taken (sym (d .1)), a .2)
+    let a = was-taken (laidOut o s) (λ k. moveIn k numbers (postAt s)) m e in
+    (a .0, row-laid o s (a .0) (a .1) .0, a .2)
 
 -- it is the move that the bytes say, whatever the outline
 pub said-is : (o : Outline) (numbers s : List ℕ) (m : Move) → moveAt o numbers s ≡ taken m → said numbers s ≡ m
