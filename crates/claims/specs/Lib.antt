@@ -3,3 +3,4 @@ pub mod Demand
 pub mod Weighing
 pub mod Singles
 pub mod Figures
+pub mod Written

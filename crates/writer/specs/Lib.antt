@@ -3,4 +3,3 @@ pub mod Tally
 pub mod Page
 pub mod Writer
 pub mod Calls
-pub mod Journal
