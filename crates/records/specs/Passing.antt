@@ -10,7 +10,8 @@ use Rattle.layout.specs.Verdict.{verdictOf}
 use Rattle.layout.specs.declared.verdict.Verdict.{Verdict}
 use Rattle.writer.specs.Page.{Page}
 use Rattle.writer.specs.declared.tally.Tally.{Tally}
-use Rattle.records.specs.Whole.{Outcome, whole}
+use Rattle.records.specs.Whole.{Outcome, whole, writtenIn, stopOf}
+use Rattle.records.specs.declared.whole.Stop.{Stop}
 
 -- what is true of a writer's tally: posts that wait are in their turn, and their block has a number
 pub record Few (t : Tally) : Type 0 where
@@ -29,6 +30,10 @@ pub record Passes (room : ℕ) (t : Tally) (answer : Page → Answer Page) (v : 
   pub verdict : (p : Page) → Reached room t p → v ≡ verdictOf (answer p)
   pub after : (p : Page) → Reached room t p → Reached room u (valueOr p (answer p))
   pub few : Few u
+
+-- the first record that isn't taken, in whichever buffer of so many bytes
+abbrev pub StopsIn : ℕ → List ℕ → Stop → Type 0
+StopsIn room s r = (lent : List ℕ) → length lent ≡ room → r ≡ stopOf (writtenIn lent s)
 
 -- the length and the buffer of an outcome that is whole
 pub record Filled (o : Outcome) (n : ℕ) (bytes : List ℕ) : Type 0 where

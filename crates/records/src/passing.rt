@@ -1,9 +1,7 @@
 // A record on a tally alone: it answers as on a page, and nothing is written.
 ghost use mathlib.Core.Path.{_≡_};
-ghost use Prim.Native.Nat.{ℕ, _<_};
-ghost use Rattle.amounts.specs.Decline.{taken};
+ghost use Prim.Native.Nat.{_<_};
 ghost use Rattle.writer.specs.Page.{setUpOn, postOn};
-ghost use Rattle.writer.specs.Page as pages;
 ghost use Rattle.writer.specs.Tally as tallies;
 ghost use Rattle.records.specs.Passing.{Few, Passes};
 ghost use Rattle.records.specs.Records.{recordOf, firstOf};
@@ -112,16 +110,6 @@ fn pass_post(room: usize, t: Tally, s: &[u8]) -> Passed
     }
 }
 
-fn pass_end(t: Tally) -> Passed
-    requires { ⌜ Few t ⌝ }
-    ensures { λ r. ⌜ (room : ℕ) → Passes room t (λ p. taken (pages.ended p)) (r .verdict) (r .tally) ⌝ }
-{
-    Passed {
-        verdict: Verdict::Accepted,
-        tally: after_end(t),
-    }
-}
-
 // A record of any tag and bytes, over a buffer of so many bytes.
 fn pass_record(room: usize, t: Tally, tag: u8, s: &[u8]) -> Passed
     requires { ⌜ Few t ⌝ }
@@ -136,7 +124,10 @@ fn pass_record(room: usize, t: Tally, tag: u8, s: &[u8]) -> Passed
         return pass_post(room, t, s);
     }
     if tag == record::END {
-        return pass_end(t);
+        return Passed {
+            verdict: Verdict::Accepted,
+            tally: after_end(t),
+        };
     }
     Passed {
         verdict: Verdict::Declined(record::MALFORMED),

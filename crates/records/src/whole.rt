@@ -1,10 +1,7 @@
 // A list of records in memory, written as a journal: first each record is tried without writing, so that a stop leaves the buffer.
-ghost use mathlib.Core.List.{List};
 ghost use mathlib.Core.Path.{_≡_};
-ghost use Prim.Native.Nat.{ℕ};
-ghost use lib.ListN.{length};
-ghost use Rattle.records.specs.Passing.{Filled};
-ghost use Rattle.records.specs.Whole.{writtenIn, endOf, leftIn, stopOf};
+ghost use Rattle.records.specs.Passing.{StopsIn, Filled};
+ghost use Rattle.records.specs.Whole.{writtenIn, endOf, leftIn};
 use crate::call;
 use crate::passing;
 use crate::record;
@@ -26,7 +23,7 @@ pub enum Stop {
 
 // The records in turn in a buffer of so many bytes, up to the first that isn't taken; nothing is written.
 pub fn stop_in(records: &[u8], room: usize) -> Stop
-    ensures { λ r. ⌜ (lent : List ℕ) → length lent ≡ room → r ≡ stopOf (writtenIn lent (now (records .entry))) ⌝ }
+    ensures { λ r. ⌜ StopsIn room (now (records .entry)) r ⌝ }
 {
     let mut t = tally::fresh();
     let mut place: usize = 0;
