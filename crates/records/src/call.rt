@@ -13,7 +13,8 @@ use writer::page::Taken;
 // A record of any tag and bytes: as its call answers, or declined by 255 where it is malformed.
 pub fn take_record(buffer: &mut [u8], filled: usize, d: Draft, tag: u8, s: &[u8]) -> Taken
     requires { ⌜ Sound (pageOf (now buffer) filled d) ⌝ }
-    ensures { λ r. ⌜ Answers (pageOf (now (buffer .entry)) filled d) (recordOn (pageOf (now (buffer .entry)) filled d) (recordOf tag (now (s .entry)))) (r .verdict) (pageOf (now (buffer .exit)) (r .filled) (r .draft)) ⌝ }
+    ensures { λ r. ⌜ Answers (pageOf (now (buffer .entry)) filled d) (recordOn (pageOf (now (buffer .entry)) filled d) (recordOf tag (now (s .entry))))
+        (r .verdict) (pageOf (now (buffer .exit)) (r .filled) (r .draft)) ⌝ }
 {
     if tag == record::SET_UP {
         let kind = bytes::byte_at(s, 0);
@@ -36,7 +37,8 @@ pub fn take_record(buffer: &mut [u8], filled: usize, d: Draft, tag: u8, s: &[u8]
 // The first record of bytes.
 pub fn take_first(buffer: &mut [u8], filled: usize, d: Draft, s: &[u8]) -> Taken
     requires { ⌜ Sound (pageOf (now buffer) filled d) ⌝ }
-    ensures { λ r. ⌜ Answers (pageOf (now (buffer .entry)) filled d) (recordOn (pageOf (now (buffer .entry)) filled d) (firstOf (now (s .entry)))) (r .verdict) (pageOf (now (buffer .exit)) (r .filled) (r .draft)) ⌝ }
+    ensures { λ r. ⌜ Answers (pageOf (now (buffer .entry)) filled d) (recordOn (pageOf (now (buffer .entry)) filled d) (firstOf (now (s .entry))))
+        (r .verdict) (pageOf (now (buffer .exit)) (r .filled) (r .draft)) ⌝ }
 {
     if record::span_of(s) > s.len() {
         return Taken {

@@ -1,9 +1,9 @@
 // A list of records in memory, written as a journal: first each record is tried without writing, so that a stop leaves the buffer.
 ghost use mathlib.Core.Path.{_≡_};
-ghost use Rattle.records.specs.Passing.{StopsIn, Filled};
+ghost use Rattle.records.specs.Counting.{StopsIn, Filled};
 ghost use Rattle.records.specs.Whole.{writtenIn, endOf, leftIn};
 use crate::call;
-use crate::passing;
+use crate::counting;
 use crate::record;
 use layout::verdict::Verdict;
 use writer::page;
@@ -30,15 +30,15 @@ pub fn stop_in(records: &[u8], room: usize) -> Stop
     let mut at: usize = 0;
     while at < records.len() {
         let rest = &records[at..];
-        let passed = passing::pass_first(room, t, rest);
-        let v = passed.verdict;
+        let counted = counting::count_first(room, t, rest);
+        let v = counted.verdict;
         if let Verdict::Declined(d) = v {
             return Stop::At {
                 number: d.number,
                 place,
             };
         }
-        t = passed.tally;
+        t = counted.tally;
         place += 1;
         at += record::span_of(rest);
     }

@@ -13,7 +13,7 @@ use Rattle.layout.specs.Verdict.{verdictOf}
 use Rattle.writer.specs.Page.{Page, ended, freshPage, Sound, Answers}
 use Rattle.records.specs.Records.{Recorded, call, malformed, spanOf, firstOf, restOf, behind, recordsIn}
 use Rattle.records.specs.Whole.{Outcome, whole, stopped, onward, recordOn, writeAll, writtenIn}
-use Rattle.records.specs.Passing.{Filled}
+use Rattle.records.specs.Counting.{Filled}
 use Rattle.records.proofs.record.Laws.{records-first, records-end}
 
 -- ---- the first record, and then the rest
