@@ -103,7 +103,7 @@ posted-reached p s = go (eqb (own p .waiting) 9) refl
   where
     go : (b : Bool) → eqb (own p .waiting) 9 ≡ b
         → Reached (length (p .bytes)) (posted (own p))
-            (cond b (pages.turned p 10 (pages.withPost (p .draft) s)) (pages.pageOf (p .bytes) (p .filled) (pages.draftOf (posted (own p)) (pages.withPost (p .draft) s))))
+        (cond b (pages.turned p 10 (pages.withPost (p .draft) s)) (pages.pageOf (p .bytes) (p .filled) (pages.draftOf (posted (own p)) (pages.withPost (p .draft) s))))
     go true e = record { long = length-placed (p .bytes) (p .filled) _; tally = rw e }
     go false e = record { long = refl; tally = refl }
 

@@ -18,7 +18,7 @@ tail-requires : tie.Need-tail-requires
 tail-requires c κs = search needs
 
 take-set-up-requires : tie.Need-take-set-up-requires
-take-set-up-requires c κs = (c .before .before .before .before .before .before .before .pre, ?)
+take-set-up-requires c κs = c .before .before .before .before .before .before .before .pre
 
 same-length : tie.Need-same-length
 same-length c = search needs
@@ -36,7 +36,7 @@ returns c =
     (k .take-set-up .ensures)
 
 take-post-requires : tie.Need-take-post-requires
-take-post-requires c κs = (c .before .before .before .before .before .pre, ?)
+take-post-requires c κs = c .before .before .before .before .before .pre
 
 same-length-2 : tie.Need-same-length-2
 same-length-2 c = search needs
@@ -49,7 +49,7 @@ returns-2 c =
     answers-as (on-post (page t) (t .args .tag) (now (t .args .s)) (i .before .if1 .left) (i .if2 .taken)) (k .take-post .ensures)
 
 end-posts-requires : tie.Need-end-posts-requires
-end-posts-requires c κs = (c .before .before .before .before .before .before .pre, ?)
+end-posts-requires c κs = c .before .before .before .before .before .before .pre
 
 same-length-3 : tie.Need-same-length-3
 same-length-3 c = search needs

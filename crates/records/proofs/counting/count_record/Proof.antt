@@ -14,7 +14,7 @@ tail-requires : tie.Need-tail-requires
 tail-requires c κs = search needs
 
 set-up-requires : tie.Need-set-up-requires
-set-up-requires c κs = (c .before .before .before .before .before .pre, ?)
+set-up-requires c κs = c .before .before .before .before .before .pre
 
 returns : tie.Need-returns
 returns c =
@@ -29,7 +29,7 @@ returns c =
     (c .set-up .ensures)
 
 post-requires : tie.Need-post-requires
-post-requires c κs = (c .before .before .before .pre, ?)
+post-requires c κs = c .before .before .before .pre
 
 returns-2 : tie.Need-returns-2
 returns-2 c =
@@ -38,7 +38,7 @@ returns-2 c =
     counts-as (count-post (a .room) (a .t) (a .tag) (now (a .s)) (i .before .if1 .left) (i .if2 .taken)) (c .post .ensures)
 
 end-requires : tie.Need-end-requires
-end-requires c κs = (c .before .before .before .before .pre, ?)
+end-requires c κs = c .before .before .before .before .pre
 
 returns-3 : tie.Need-returns-3
 returns-3 c =

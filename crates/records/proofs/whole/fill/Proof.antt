@@ -102,7 +102,7 @@ loop-again c =
     (tail-is (l .loop .at) (bytes k)) (k .take-first .ensures) (c .span-of .result) (c .span-of .ensures) (c .before .before .enum-told2 .given .1)
 
 end-posts-requires : tie.Need-end-posts-requires Inv-loop μ-loop
-end-posts-requires c κs = (c .before .before .loop .inv .sound, ?)
+end-posts-requires c κs = c .before .before .loop .inv .sound
 
 same-length-2 : tie.Need-same-length-2 Inv-loop μ-loop
 same-length-2 c = let k = c .before .before in k .end-posts .ensures .size ∙ k .before .before .before .loop .inv .long
