@@ -77,10 +77,10 @@ counts-taken (declined n) h e = let y = h .verdict in let z : _≡_ {A = ℕ} 0 
 
 -- ---- a writer at the start
 
-tally-fresh : (room : ℕ) → tallies.Sound room freshTally
+pub tally-fresh : (room : ℕ) → tallies.Sound room freshTally
 tally-fresh room = record { few = omega arith; «blocks-few» = omega arith; within = omega arith; begun = λ h. absurd (omega arith) }
 
-page-fresh : (lent : List ℕ) → Sound (freshPage lent)
+pub page-fresh : (lent : List ℕ) → Sound (freshPage lent)
 page-fresh lent = record { counted = tally-fresh (length lent); «filled-is» = refl }
 
 -- ---- into a buffer
