@@ -25,7 +25,7 @@ returns c =
     let g = c .before .n .given in
     let o = writtenIn (now (a .journal)) (now (a .records)) in
     let t = of-written (now (a .written)) (now (a .place)) o (g .0 .0) (sym (g .1) ∙ k .write-records .ensures .0) in
-    (t .0, k .write-records .ensures .1, t .1, t .2)
+    (t .0, (k .write-records .ensures .1, (t .1, t .2)))
 
 same-length-2 : tie.Need-same-length-2
 same-length-2 c = search needs
@@ -37,7 +37,7 @@ returns-2 c =
     let g = c .before .number .given in
     let o = writtenIn (now (a .journal)) (now (a .records)) in
     let t = of-stopped (now (a .written)) (now (a .place)) o (g .0 .0) (g .0 .1 .0) (sym (g .1) ∙ k .write-records .ensures .0) in
-    (t .0, k .write-records .ensures .1, t .1, t .2)
+    (t .0, (k .write-records .ensures .1, (t .1, t .2)))
 
 pub prtr-write-spec : {M : Type 1} → statement M
 prtr-write-spec =
