@@ -17,15 +17,15 @@ pub two-told : (n : ℕ) (s : List ℕ) → n < 65536 → le 2 (bytesOf 2 n ++ s
 unfolding le bytesOf
 two-told n s h = omega arith
 
-nothing-behind : (l : List ℕ) → l ++ [] ≡ l
+pub nothing-behind : (l : List ℕ) → l ++ [] ≡ l
 nothing-behind [] = refl
 nothing-behind (x ∷ l) = ap (λ (m : List ℕ). x ∷ m) (nothing-behind l)
 
-plain-small : (s : List ℕ) → plainSum s < 65536
+pub plain-small : (s : List ℕ) → plainSum s < 65536
 unfolding plainSum
 plain-small s = omega arith
 
-weighted-small : (s : List ℕ) → weightedSum s < 65536
+pub weighted-small : (s : List ℕ) → weightedSum s < 65536
 unfolding weightedSum
 weighted-small s = omega arith
 
