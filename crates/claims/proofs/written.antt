@@ -1,3 +1,4 @@
 pub mod Places
 pub mod Accepted
 pub mod Blocks
+pub mod Shows
