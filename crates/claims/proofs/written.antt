@@ -2,3 +2,4 @@ pub mod Places
 pub mod Accepted
 pub mod Blocks
 pub mod Shows
+pub mod Steps

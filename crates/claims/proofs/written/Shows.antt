@@ -109,12 +109,12 @@ pub record Told (posts blocks waiting : List (List ℕ)) (o : Outline) : Type 0 
   pub outline : o ≡ outlineOver freshOutline blocks
   pub formed : EachFormed o waiting
 
-told-none : Told [] [] [] freshOutline
+pub told-none : Told [] [] [] freshOutline
 unfolding postsInAll
 told-none = record { held = refl; pass = tt; outline = refl; formed = tt }
 
 -- one post more
-told-post : (posts blocks waiting : List (List ℕ)) (o : Outline) (s : List ℕ) → Told posts blocks waiting o → isTaken (wellFormed o s) ≡ true
+pub told-post : (posts blocks waiting : List (List ℕ)) (o : Outline) (s : List ℕ) → Told posts blocks waiting o → isTaken (wellFormed o s) ≡ true
     → Told (posts ++ (s ∷ [])) blocks (waiting ++ (s ∷ [])) o
 told-post posts blocks waiting o s h e =
     record {
@@ -125,7 +125,7 @@ told-post posts blocks waiting o s h e =
     }
 
 -- a set-up block, while no post waits
-told-set-up : (posts blocks : List (List ℕ)) (room : ℕ) (t : Tally) (kind count : ℕ) (body : List ℕ) → Told posts blocks [] (t .outline) → t .blocks ≡ length blocks
+pub told-set-up : (posts blocks : List (List ℕ)) (room : ℕ) (t : Tally) (kind count : ℕ) (body : List ℕ) → Told posts blocks [] (t .outline) → t .blocks ≡ length blocks
     → SetUpTaken room t kind count body → Told posts (blocks ++ (blockOf kind count (t .blocks) body ∷ [])) [] (outlineAfter (t .outline) kind count body)
 told-set-up posts blocks room t kind count body h number a =
     let x : List ℕ = blockOf kind count (t .blocks) body in
@@ -146,7 +146,7 @@ told-set-up posts blocks room t kind count body h number a =
     }
 
 -- the posts that wait become a block
-told-turned : (posts blocks waiting : List (List ℕ)) (o : Outline) → Told posts blocks waiting o → 1 ≤ length waiting → length waiting ≤ 10 → mayPost o ≡ true
+pub told-turned : (posts blocks waiting : List (List ℕ)) (o : Outline) → Told posts blocks waiting o → 1 ≤ length waiting → length waiting ≤ 10 → mayPost o ≡ true
     → length blocks < 65536 → Told posts (blocks ++ (blockOfPosts (length blocks) waiting ∷ [])) [] o
 told-turned posts blocks waiting o h some few turn small =
     let n : ℕ = length blocks in
