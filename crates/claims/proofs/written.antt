@@ -3,3 +3,4 @@ pub mod Accepted
 pub mod Blocks
 pub mod Shows
 pub mod Steps
+pub mod Claims

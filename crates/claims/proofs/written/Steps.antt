@@ -145,21 +145,21 @@ module _ (lent : List ℕ) (posts blocks waiting : List (List ℕ)) (p : Page) (
 
 -- ---- an end
 
-module _ (lent : List ℕ) (posts blocks waiting : List (List ℕ)) (p : Page) (h : Shows lent posts blocks waiting p) where
-  abbrev last : Page
-  last = turned p (p .draft .tally .waiting) (p .draft .block)
+abbrev lastPage : Page → Page
+lastPage p = turned p (p .draft .tally .waiting) (p .draft .block)
 
-  -- with no post waiting it writes nothing
-  pub shows-same : length waiting ≡ 0 → Shows lent posts blocks waiting (page.ended p)
-  unfolding page.ended
-  shows-same e =
-      let none : true ≡ eqb (p .draft .tally .waiting) 0 = sym (eq-eqb (p .draft .tally .waiting) 0 (h .count ∙ e)) in
-      subst (λ (q : Page). Shows lent posts blocks waiting q) (ap (λ (t : Bool). cond t p last) none) h
+-- with no post waiting it writes nothing
+pub shows-same : (lent : List ℕ) (posts blocks : List (List ℕ)) (p : Page) → Shows lent posts blocks [] p → Shows lent posts blocks [] (page.ended p)
+unfolding page.ended
+shows-same lent posts blocks p h =
+    let none : true ≡ eqb (p .draft .tally .waiting) 0 = sym (eq-eqb (p .draft .tally .waiting) 0 (h .count)) in
+    subst (λ (q : Page). Shows lent posts blocks [] q) (ap (λ (t : Bool). cond t p (lastPage p)) none) h
 
-  pub shows-ended : (length waiting ≡ 0 → ⊥) → Shows lent posts (blocks ++ (blockOfPosts (length blocks) waiting ∷ [])) [] (page.ended p)
-  unfolding page.ended
-  shows-ended d =
-      let some : false ≡ eqb (p .draft .tally .waiting) 0 = sym (ne-eqb (p .draft .tally .waiting) 0 (λ e. d (sym (h .count) ∙ e))) in
-      let one : 1 ≤ length waiting = omega arith in
-      subst (λ (q : Page). Shows lent posts (blocks ++ (blockOfPosts (length blocks) waiting ∷ [])) [] q) (ap (λ (t : Bool). cond t p last) some)
-      (shows-turned lent posts blocks waiting p (h .number) (h .filled) (h .begun one) (h .told) one (omega (arith, h .few)) (p .draft .tally .waiting) (p .draft .block) (h .count) (h .block))
+-- and else the posts that wait become a block
+pub shows-ended : (lent : List ℕ) (posts blocks waiting : List (List ℕ)) (p : Page) → Shows lent posts blocks waiting p → 1 ≤ length waiting
+    → Shows lent posts (blocks ++ (blockOfPosts (length blocks) waiting ∷ [])) [] (page.ended p)
+unfolding page.ended
+shows-ended lent posts blocks waiting p h one =
+    let some : false ≡ eqb (p .draft .tally .waiting) 0 = sym (ne-eqb (p .draft .tally .waiting) 0 (λ e. omega (arith, h .count))) in
+    subst (λ (q : Page). Shows lent posts (blocks ++ (blockOfPosts (length blocks) waiting ∷ [])) [] q) (ap (λ (t : Bool). cond t p (lastPage p)) some)
+    (shows-turned lent posts blocks waiting p (h .number) (h .filled) (h .begun one) (h .told) one (omega (arith, h .few)) (p .draft .tally .waiting) (p .draft .block) (h .count) (h .block))
