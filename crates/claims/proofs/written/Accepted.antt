@@ -1,8 +1,8 @@
 -- What a writer's accepted calls tell. Assumes nothing.
-use mathlib.Core.Path.{_≡_, refl, sym, ap, subst, _∙_}
+use mathlib.Core.Path.{_≡_, refl, sym, ap, _∙_}
 use mathlib.Core.Bool.{Bool, true, false, true≢false, not, _&&_, cond}
 use mathlib.Core.List.{List, [], _∷_, _++_}
-use Prim.Native.Nat.{ℕ, zero, suc, _+_, _*_, _≤_, _<_}
+use Prim.Native.Nat.{ℕ, _+_, _*_, _≤_, _<_}
 use native.Mathlib.Omega.{arith}
 use borrow.Author.Tests.{eqb-true, leb-true, ltb-true, eq-eqb, ne-eqb}
 use lib.Dec.{eqb, leb, ltb}
@@ -11,14 +11,14 @@ use Rattle.amounts.specs.Decline.{Answer, taken, declined, Check, check, checke
 use Rattle.amounts.proofs.decline.Laws.{was-taken}
 use Rattle.layout.specs.Frame.{blockOf}
 use Rattle.layout.specs.Outline.{maySetUp, mayDescribe, mayPost}
-use Rattle.layout.specs.Setup.{within, setupChecks}
+use Rattle.layout.specs.Setup.{setupChecks}
 use Rattle.layout.specs.Stage.{stageChecks}
 use Rattle.layout.specs.declared.outline.Outline.{Outline}
 use Rattle.layout.proofs.Checked.{AllPass, passed}
 use Rattle.layout.proofs.Each.{and-true}
 use Rattle.layout.proofs.setup.Laws.{within-true}
 use Rattle.post.specs.Fields.{postAt}
-use Rattle.post.specs.Kind.{Row, fieldsFit, kindOf}
+use Rattle.post.specs.Kind.{fieldsFit, kindOf}
 use Rattle.post.specs.Moves.{laidOut, floatsFit, wellFormed}
 use Rattle.writer.specs.Page.{Page, draftOf, withBlock, posted, postOn, setUpOn}
 use Rattle.writer.specs.Tally as tally

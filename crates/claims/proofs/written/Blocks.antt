@@ -8,16 +8,16 @@ use borrow.Author.Tests.{eq-eqb, ne-eqb, le-leb}
 use lib.Dec.{eqb}
 use lib.ListN.{length, getD, drop, length-append}
 use lib.Seq.{drop-at}
-use Rattle.amounts.specs.Decline.{taken, Check, checked, isTaken}
+use Rattle.amounts.specs.Decline.{Check, checked, isTaken}
 use Rattle.layout.specs.Bytes.{padded, allZero}
 use Rattle.layout.specs.Each.{listTo}
-use Rattle.layout.specs.Frame.{blockKind, countOf, bodyOf, frameChecks, blockOf}
+use Rattle.layout.specs.Frame.{blockKind, countOf, bodyOf, blockOf}
 use Rattle.layout.specs.Outline.{mayPost}
 use Rattle.layout.specs.Posts.{postIn, ownChecks}
 use Rattle.layout.specs.Setup.{within}
 use Rattle.layout.specs.declared.outline.Outline.{Outline}
 use Rattle.layout.proofs.Checked as table
-use Rattle.layout.proofs.frame.Made.{made-long, kind-made, count-made, body-made, made-passes}
+use Rattle.layout.proofs.frame.Made.{kind-made, count-made, body-made, made-passes}
 use Rattle.post.specs.Moves.{wellFormed}
 use Rattle.writer.specs.Tally.{kindChecks, outlineAfter}
 use Rattle.claims.specs.Written.{joined, postsIn, postsInAll, bodyRows, outlinePast, Passes, AllPass}

@@ -2,7 +2,7 @@
 use mathlib.Core.Path.{_≡_, refl, sym, ap, _∙_}
 use mathlib.Core.Bool.{Bool, true}
 use mathlib.Core.List.{List, [], _∷_, _++_, append-assoc, append-nil}
-use Prim.Native.Nat.{ℕ, zero, suc, _+_, _-_, _*_, _≤_, _<_}
+use Prim.Native.Nat.{ℕ, zero, suc, _+_, _*_, _≤_, _<_}
 use native.Mathlib.Omega.{arith}
 use borrow.Author.Tests.{eq-eqb, le-leb}
 use lib.ListN.{length, getD, take, drop, replicate, length-append, length-replicate, getD-replicate, replicate-append-replicate}
@@ -72,7 +72,7 @@ joined-long n (l ∷ ls) h = omega (arith, length-append l (joined ls), joined-l
 pub part-is : (n : ℕ) (ls : List (List ℕ)) (rest : List ℕ) → EachLong n ls → (i : ℕ) → i < length ls → partOf n (joined ls ++ rest) i ≡ getD ls i []
 unfolding joined
 part-is n [] rest h i g = absurd (omega arith)
-part-is n (l ∷ ls) rest h zero g = 
+part-is n (l ∷ ls) rest h zero g =
     let start : zero * n ≡ 0 = omega arith in
     ap (λ (k : ℕ). take n (drop k ((l ++ joined ls) ++ rest))) start
     ∙ ap (take n) (append-assoc l (joined ls) rest) ∙ take-at l (joined ls ++ rest) n (h .0)

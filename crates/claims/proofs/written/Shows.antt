@@ -1,29 +1,25 @@
 -- A writer's page shows blocks and the posts that wait: one relation, which every accepted call keeps. Assumes nothing.
 use mathlib.Core.Path.{_≡_, refl, sym, ap, subst, _∙_}
-use mathlib.Core.Bool.{Bool, true, false, true≢false, cond}
+use mathlib.Core.Bool.{true}
 use mathlib.Core.List.{List, [], _∷_, _++_, append-assoc, append-nil}
-use Prim.Native.Nat.{ℕ, zero, suc, _+_, _-_, _*_, _≤_, _<_}
+use Prim.Native.Nat.{ℕ, _+_, _-_, _*_, _≤_, _<_}
 use native.Mathlib.Omega.{arith}
-use borrow.Author.Tests.{eqb-true, eqb-false}
-use lib.Dec.{eqb}
 use lib.ListN.{length, take, drop, length-append, length-drop}
 use lib.Seq.{take-at, drop-drop}
 use Rattle.amounts.specs.Decline.{isTaken}
 use Rattle.layout.specs.Frame.{bodyOf, blockOf}
 use Rattle.layout.specs.Outline.{freshOutline, mayPost}
 use Rattle.layout.specs.declared.outline.Outline.{Outline}
-use Rattle.layout.proofs.frame.Made.{made-long}
 use Rattle.post.specs.Moves.{wellFormed}
 use Rattle.writer.specs.Frame.{placed}
-use Rattle.writer.specs.Page.{Page, pageOf, draftOf, freshPage, turned, withPost, posted}
-use Rattle.writer.specs.Tally as tally
-use Rattle.writer.specs.Tally.{tallyOf, outlineAfter}
+use Rattle.writer.specs.Page.{Page, freshPage}
+use Rattle.writer.specs.Tally.{outlineAfter}
 use Rattle.writer.specs.declared.tally.Tally.{Tally}
-use Rattle.claims.specs.Written.{joined, postsInAll, outlinePast, Passes, AllPass}
-use Rattle.claims.proofs.written.Accepted.{SetUpTaken, PostTaken, Free, setUpPage}
+use Rattle.claims.specs.Written.{joined, postsIn, postsInAll, outlinePast, Passes, AllPass}
+use Rattle.claims.proofs.written.Accepted.{SetUpTaken}
 use Rattle.claims.proofs.written.Blocks.{outlineOver, outline-last, pass-last, posts-last, set-up-holds, set-up-outline, set-up-passes, EachFormed, formed-last, each-long}
-use Rattle.claims.proofs.written.Blocks.{postsBody, blockOfPosts, posts-outline, body-long, posts-held, posts-pass}
-use Rattle.claims.proofs.written.Places.{placed-at, zeros, zeros-long, zeros-append, drop-zeros, joined-last, joined-long}
+use Rattle.claims.proofs.written.Blocks.{postsBody, blockOfPosts, posts-outline, posts-held, posts-pass}
+use Rattle.claims.proofs.written.Places.{placed-at, zeros, zeros-long, zeros-append, drop-zeros, joined-last}
 
 -- ---- the bytes: blocks, and then the bytes that were lent
 
@@ -124,45 +120,41 @@ told-post posts blocks waiting o s h e =
       formed = formed-last o waiting s (h .formed) e;
     }
 
+-- one block more, whose posts were those that waited
+told-block : (posts blocks waiting : List (List ℕ)) (o next : Outline) (x : List ℕ) → Told posts blocks waiting o → postsIn x ≡ waiting → outlinePast o x ≡ next
+    → Passes (length blocks) o x → Told posts (blocks ++ (x ∷ [])) [] next
+told-block posts blocks waiting o next x h same onward passes =
+    let before : Outline = outlineOver freshOutline blocks in
+    let place : length blocks ≡ 0 + length blocks = omega arith in
+    record {
+      held =
+          append-nil (postsInAll (blocks ++ (x ∷ []))) ∙ posts-last blocks x ∙ ap (λ (l : List (List ℕ)). postsInAll blocks ++ l) same ∙ h .held;
+      pass =
+          pass-last 0 freshOutline blocks x (h .pass)
+          (subst (λ (n : ℕ). Passes n before x) place (subst (λ (u : Outline). Passes (length blocks) u x) (h .outline) passes));
+      outline = sym onward ∙ ap (λ (u : Outline). outlinePast u x) (h .outline) ∙ sym (outline-last freshOutline blocks x);
+      formed = tt;
+    }
+
 -- a set-up block, while no post waits
 pub told-set-up : (posts blocks : List (List ℕ)) (room : ℕ) (t : Tally) (kind count : ℕ) (body : List ℕ) → Told posts blocks [] (t .outline) → t .blocks ≡ length blocks
     → SetUpTaken room t kind count body → Told posts (blocks ++ (blockOf kind count (t .blocks) body ∷ [])) [] (outlineAfter (t .outline) kind count body)
 told-set-up posts blocks room t kind count body h number a =
-    let x : List ℕ = blockOf kind count (t .blocks) body in
-    let o : Outline = outlineOver freshOutline blocks in
-    let passes = set-up-passes kind count (t .blocks) body (a .low) (a .high) (t .outline) (a .long) (a .free .number) (a .rows) in
-    let place : t .blocks ≡ 0 + length blocks = omega arith in
-    record {
-      held =
-          ap (λ (l : List (List ℕ)). l ++ []) (posts-last blocks x ∙ ap (λ (l : List (List ℕ)). postsInAll blocks ++ l) (set-up-holds kind count (t .blocks) body (a .low) (a .high)) ∙ append-nil (postsInAll blocks))
-          ∙ h .held;
-      pass =
-          pass-last 0 freshOutline blocks x (h .pass)
-          (subst (λ (n : ℕ). Passes n o x) place (subst (λ (u : Outline). Passes (t .blocks) u x) (h .outline) passes));
-      outline =
-          sym (set-up-outline kind count (t .blocks) body (a .low) (a .high) (t .outline) (a .long)) ∙ ap (λ (u : Outline). outlinePast u x) (h .outline)
-          ∙ sym (outline-last freshOutline blocks x);
-      formed = tt;
-    }
+    let n : ℕ = t .blocks in
+    let o : Outline = t .outline in
+    let x : List ℕ = blockOf kind count n body in
+    let passes = set-up-passes kind count n body (a .low) (a .high) o (a .long) (a .free .number) (a .rows) in
+    told-block posts blocks [] o (outlineAfter o kind count body) x h (set-up-holds kind count n body (a .low) (a .high))
+    (set-up-outline kind count n body (a .low) (a .high) o (a .long)) (subst (λ (k : ℕ). Passes k o x) number passes)
 
 -- the posts that wait become a block
 pub told-turned : (posts blocks waiting : List (List ℕ)) (o : Outline) → Told posts blocks waiting o → 1 ≤ length waiting → length waiting ≤ 10 → mayPost o ≡ true
     → length blocks < 65536 → Told posts (blocks ++ (blockOfPosts (length blocks) waiting ∷ [])) [] o
 told-turned posts blocks waiting o h some few turn small =
     let n : ℕ = length blocks in
-    let x : List ℕ = blockOfPosts n waiting in
     let each = each-long o waiting (h .formed) in
-    let passes = posts-pass n waiting each few o turn some small (h .formed) in
-    let place : n ≡ 0 + length blocks = omega arith in
-    record {
-      held =
-          append-nil (postsInAll (blocks ++ (x ∷ []))) ∙ posts-last blocks x ∙ ap (λ (l : List (List ℕ)). postsInAll blocks ++ l) (posts-held n waiting each few) ∙ h .held;
-      pass =
-          pass-last 0 freshOutline blocks x (h .pass)
-          (subst (λ (k : ℕ). Passes k (outlineOver freshOutline blocks) x) place (subst (λ (u : Outline). Passes n u x) (h .outline) passes));
-      outline = sym (posts-outline n waiting o) ∙ ap (λ (u : Outline). outlinePast u x) (h .outline) ∙ sym (outline-last freshOutline blocks x);
-      formed = tt;
-    }
+    told-block posts blocks waiting o o (blockOfPosts n waiting) h (posts-held n waiting each few) (posts-outline n waiting o)
+    (posts-pass n waiting each few o turn some small (h .formed))
 
 -- ---- the relation
 

@@ -1,26 +1,25 @@
 -- What each accepted call makes of the page that shows blocks and waiting posts. Assumes nothing.
 use mathlib.Core.Path.{_≡_, refl, sym, ap, subst, _∙_}
-use mathlib.Core.Bool.{Bool, true, false, true≢false, cond}
-use mathlib.Core.List.{List, [], _∷_, _++_, append-nil}
-use Prim.Native.Nat.{ℕ, zero, suc, _+_, _*_, _≤_, _<_}
+use mathlib.Core.Bool.{Bool, true, false, cond}
+use mathlib.Core.List.{List, [], _∷_, _++_}
+use Prim.Native.Nat.{ℕ, _+_, _*_, _≤_}
 use native.Mathlib.Decide.{ℕ-discrete}
 use native.Mathlib.Omega.{arith}
 use borrow.Author.Tests.{eq-eqb, ne-eqb}
 use lib.Dec.{eqb}
 use lib.ListN.{length, length-append}
-use Rattle.amounts.specs.Decline.{taken}
 use Rattle.layout.specs.Frame.{bodyOf, blockOf}
 use Rattle.layout.specs.declared.outline.Outline.{Outline}
 use Rattle.layout.proofs.frame.Made.{made-long}
-use Rattle.writer.specs.Calls.{Call, setUp, post, end, answerTo}
+use Rattle.writer.specs.Calls.{setUp}
 use Rattle.writer.specs.Frame.{placed}
 use Rattle.writer.specs.Page as page
 use Rattle.writer.specs.Page.{Page, pageOf, draftOf, turned, postsBlock, withPost, posted}
 use Rattle.writer.specs.Tally as tally
 use Rattle.writer.specs.Tally.{tallyOf}
 use Rattle.writer.specs.declared.tally.Tally.{Tally}
-use Rattle.claims.specs.Written.{joined, Sheet, sheet, ofPosts, framedFrom}
-use Rattle.claims.proofs.written.Accepted.{SetUpTaken, PostTaken, Free, setUpPage, set-up-taken, post-taken}
+use Rattle.claims.specs.Written.{joined}
+use Rattle.claims.proofs.written.Accepted.{SetUpTaken, PostTaken, setUpPage}
 use Rattle.claims.proofs.written.Blocks.{each-long, postsBody, blockOfPosts, body-long}
 use Rattle.claims.proofs.written.Places.{joined-long}
 use Rattle.claims.proofs.written.Shows.{Filled, same-length, filled-next, drafted, drafted-none, drafted-next, drafted-body}
@@ -62,8 +61,8 @@ module _ (lent : List ℕ) (posts blocks waiting : List (List ℕ)) (p : Page) (
       let each = each-long o waiting (told .formed) in
       let body : bodyOf block ≡ postsBody waiting = ap bodyOf e ∙ drafted-body waiting (omega (arith, joined-long 48 waiting each)) in
       let made : x ≡ y =
-          ap (λ (k : ℕ). blockOf 3 k n (postsBody waiting)) (sym is) ∙ ap (λ (k : ℕ). blockOf 3 count k (postsBody waiting)) (sym number)
-          ∙ ap (λ (s : List ℕ). blockOf 3 count (p .draft .tally .blocks) s) (sym body) in
+      ap (λ (k : ℕ). blockOf 3 k n (postsBody waiting)) (sym is) ∙ ap (λ (k : ℕ). blockOf 3 count k (postsBody waiting)) (sym number)
+      ∙ ap (λ (s : List ℕ). blockOf 3 count (p .draft .tally .blocks) s) (sym body) in
       let next = filled-next lent blocks (p .bytes) (p .filled) filled x (made-long 3 (length waiting) n (postsBody waiting) (body-long n waiting each few)) (b .room) in
       record {
         filled = subst (λ (z : List ℕ). Filled lent (blocks ++ (x ∷ [])) (placed (p .bytes) (p .filled) z) (p .filled + 512)) made next;
@@ -116,7 +115,7 @@ module _ (lent : List ℕ) (posts blocks waiting : List (List ℕ)) (p : Page) (
   shows-tenth e =
       let full : eqb (p .draft .tally .waiting) 9 ≡ true = eq-eqb (p .draft .tally .waiting) 9 (h .count ∙ e) in
       let is : turned p 10 (withPost (p .draft) s) ≡ posted p s =
-          ap (λ (t : Bool). cond t (turned p 10 (withPost (p .draft) s)) (pageOf (p .bytes) (p .filled) (draftOf (tally.posted (p .draft .tally)) (withPost (p .draft) s)))) (sym full) in
+      ap (λ (t : Bool). cond t (turned p 10 (withPost (p .draft) s)) (pageOf (p .bytes) (p .filled) (draftOf (tally.posted (p .draft .tally)) (withPost (p .draft) s)))) (sym full) in
       subst (λ (q : Page). Shows lent (posts ++ (s ∷ [])) (blocks ++ (blockOfPosts (length blocks) more ∷ [])) [] q) is
       (shows-turned lent (posts ++ (s ∷ [])) blocks more p (h .number) (h .filled) begins told-more (omega (arith, more-long)) (omega (arith, more-long))
       10 (withPost (p .draft) s) (omega (arith, more-long)) behind)
@@ -130,17 +129,17 @@ module _ (lent : List ℕ) (posts blocks waiting : List (List ℕ)) (p : Page) (
       let v : Tally = tallyOf (t .outline) (t .waiting + 1) (t .blocks) in
       let now : Page = pageOf (p .bytes) (p .filled) (draftOf v (withPost (p .draft) s)) in
       let is : now ≡ posted p s =
-          ap (λ (x : Bool). cond x (turned p 10 (withPost (p .draft) s)) (pageOf (p .bytes) (p .filled) (draftOf (cond x (tally.turned t) v) (withPost (p .draft) s)))) short in
+      ap (λ (x : Bool). cond x (turned p 10 (withPost (p .draft) s)) (pageOf (p .bytes) (p .filled) (draftOf (cond x (tally.turned t) v) (withPost (p .draft) s)))) short in
       let shown : Shows lent (posts ++ (s ∷ [])) blocks more now =
-          record {
-            filled = h .filled;
-            number = h .number;
-            count = omega (arith, h .count, more-long);
-            few = omega (arith, h .few, more-long);
-            block = behind;
-            begun = λ l. begins;
-            told = told-more;
-          } in
+      record {
+        filled = h .filled;
+        number = h .number;
+        count = omega (arith, h .count, more-long);
+        few = omega (arith, h .few, more-long);
+        block = behind;
+        begun = λ l. begins;
+        told = told-more;
+      } in
       subst (λ (q : Page). Shows lent (posts ++ (s ∷ [])) blocks more q) is shown
 
 -- ---- an end
