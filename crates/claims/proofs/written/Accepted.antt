@@ -27,10 +27,12 @@ use Rattle.writer.specs.declared.tally.Tally.{Tally}
 
 -- ---- tables of checks
 
+-- a table after another passes as both do
 pub pass-both : (xs ys : List Check) → AllPass (xs ++ ys) → AllPass xs × AllPass ys
 pass-both [] ys h = (tt, h)
 pass-both (check t n ∷ xs) ys h = let r = pass-both xs ys (h .1) in ((h .0, r .0), r .1)
 
+-- a table that passes takes
 pub pass-taken : {A : Type 0} (rows : List Check) (a : A) → AllPass rows → checked rows a ≡ taken a
 unfolding checked
 pass-taken [] a h = refl

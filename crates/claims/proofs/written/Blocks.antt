@@ -31,10 +31,12 @@ abbrev pub outlineOver : Outline → List (List ℕ) → Outline
 outlineOver o [] = o
 outlineOver o (s ∷ blocks) = outlineOver (outlinePast o s) blocks
 
+-- it changes the outline that those before it made
 pub outline-last : (o : Outline) (blocks : List (List ℕ)) (s : List ℕ) → outlineOver o (blocks ++ (s ∷ [])) ≡ outlinePast (outlineOver o blocks) s
 outline-last o [] s = refl
 outline-last o (x ∷ blocks) s = outline-last (outlinePast o x) blocks s
 
+-- it passes by its place and that outline
 pub pass-last : (place : ℕ) (o : Outline) (blocks : List (List ℕ)) (s : List ℕ) → AllPass place o blocks → Passes (place + length blocks) (outlineOver o blocks) s
     → AllPass place o (blocks ++ (s ∷ []))
 pass-last place o [] s h p =
@@ -44,6 +46,7 @@ pass-last place o (x ∷ blocks) s h p =
     let e : place + suc (length blocks) ≡ suc place + length blocks = omega arith in
     (h .0, pass-last (suc place) (outlinePast o x) blocks s (h .1) (subst (λ (n : ℕ). Passes n (outlineOver (outlinePast o x) blocks) s) e p))
 
+-- its posts come last
 pub posts-last : (blocks : List (List ℕ)) (s : List ℕ) → postsInAll (blocks ++ (s ∷ [])) ≡ postsInAll blocks ++ postsIn s
 unfolding postsInAll
 posts-last [] s = append-nil (postsIn s)
@@ -109,6 +112,7 @@ pub each-long : (o : Outline) (posts : List (List ℕ)) → EachFormed o posts �
 each-long o [] h = tt
 each-long o (s ∷ posts) h = (formed-long o s (h .0), each-long o posts (h .1))
 
+-- the body of a block of posts
 abbrev pub postsBody : List (List ℕ) → List ℕ
 postsBody posts = padded 500 (joined posts)
 

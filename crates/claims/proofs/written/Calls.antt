@@ -70,6 +70,7 @@ shows-end lent posts blocks (w ∷ ws) p h =
     subst (λ (t : Bool). Shows lent posts (blocks ++ framedFrom (length blocks) (cond t [] (ofPosts (w ∷ ws) ∷ []))) [] (page.ended p)) (sym (ne-eqb (suc (length ws)) 0 (λ e. omega arith)))
     (shows-ended lent posts blocks (w ∷ ws) p h (omega arith))
 
+-- every accepted call keeps what the page shows
 pub shows-call : (lent : List ℕ) (posts blocks waiting : List (List ℕ)) (p q : Page) (call : Call) → Shows lent posts blocks waiting p → answerTo p call ≡ taken q
     → Shows lent (posts ++ postBy call) (blocksBy blocks waiting call) (waitingBy waiting call) q
 shows-call lent posts blocks waiting p q (setUp kind count body) h e = call-set-up lent posts blocks p q waiting kind count body h e
@@ -85,6 +86,7 @@ shows-call lent posts blocks waiting p q end h e =
 abbrev pub blocksAfter : List (List ℕ) → List (List ℕ) → List Call → List (List ℕ)
 blocksAfter blocks waiting calls = blocks ++ framedFrom (length blocks) (sheets waiting calls)
 
+-- the blocks of the first call, and then those of the others
 blocks-first : (blocks waiting : List (List ℕ)) (call : Call) (calls : List Call)
     → blocksAfter (blocksBy blocks waiting call) (waitingBy waiting call) calls ≡ blocksAfter blocks waiting (call ∷ calls)
 blocks-first blocks waiting call calls =
@@ -122,6 +124,7 @@ module _ (lent : List ℕ) where
       after-first posts blocks waiting call (accepted q calls) (run q calls)
       (rest (posts ++ postBy call) (blocksBy blocks waiting call) (waitingBy waiting call) q (shows-call lent posts blocks waiting p q call h e))
 
+  -- all calls, one by one
   shows-all : (calls : List Call) → Keeps calls
   unfolding run accepted postsTaken sheets framedFrom
   shows-all [] posts blocks waiting p h =

@@ -38,6 +38,7 @@ zeros-append n m = replicate-append-replicate {A = ℕ} n m 0
 pub drop-zeros : (n m : ℕ) → drop n (zeros (n + m)) ≡ zeros m
 drop-zeros n m = ap (drop n) (sym (zeros-append n m)) ∙ drop-at (zeros n) (zeros m) n (zeros-long n)
 
+-- what holds of each
 all-hold : (n : ℕ) (f : ℕ → Bool) → ((i : ℕ) → i < n → f i ≡ true) → allTo n f ≡ true
 unfolding allTo
 all-hold zero f h = refl
@@ -63,6 +64,7 @@ abbrev pub EachLong : {A : Type 0} → ℕ → List (List A) → Type 0
 EachLong n [] = Unit
 EachLong n (l ∷ ls) = (length l ≡ n) × EachLong n ls
 
+-- so many as they are, n long each
 pub joined-long : {A : Type 0} (n : ℕ) (ls : List (List A)) → EachLong n ls → length (joined ls) ≡ length ls * n
 unfolding joined
 joined-long n [] h = omega arith
@@ -83,6 +85,7 @@ part-is n (l ∷ ls) rest h (suc i) g =
     ∙ ap (λ (r : List ℕ). take n (drop (length l + i * n) r)) (append-assoc l (joined ls) rest)
     ∙ ap (take n) (drop-append-add l (joined ls ++ rest) (i * n)) ∙ part-is n ls rest (h .1) i (omega arith)
 
+-- in order they are the lists
 pub parts-are : (n : ℕ) (ls : List (List ℕ)) (rest : List ℕ) → EachLong n ls → listTo (length ls) (partOf n (joined ls ++ rest)) ≡ ls
 parts-are n ls rest h =
     let f : ℕ → List ℕ = partOf n (joined ls ++ rest) in

@@ -29,6 +29,7 @@ pub record Filled (lent : List ℕ) (blocks : List (List ℕ)) (bytes : List ℕ
   pub size : length (joined blocks) ≡ length blocks * 512
   pub within : length (joined blocks) ≤ length lent
 
+-- no block yet
 pub filled-none : (lent : List ℕ) → Filled lent [] lent 0
 unfolding joined
 filled-none lent = record { bytes-are = refl; filled-is = refl; size = omega arith; within = omega arith }
@@ -37,6 +38,7 @@ module _ (lent : List ℕ) (blocks : List (List ℕ)) (bytes : List ℕ) (filled
   abbrev so-far : ℕ
   so-far = length (joined blocks)
 
+  -- the buffer keeps its length
   pub same-length : length bytes ≡ length lent
   same-length = omega (arith, ap length (h .bytes-are), length-append (joined blocks) (drop so-far lent), length-drop so-far lent)
 
@@ -64,10 +66,12 @@ module _ (lent : List ℕ) (blocks : List (List ℕ)) (bytes : List ℕ) (filled
 abbrev pub drafted : List (List ℕ) → List ℕ
 drafted waiting = zeros 8 ++ (joined waiting ++ zeros (504 - length (joined waiting)))
 
+-- no post waits
 pub drafted-none : zeros 512 ≡ drafted []
 unfolding joined
 drafted-none = sym (zeros-append 8 504)
 
+-- one post more waits
 pub drafted-next : (waiting : List (List ℕ)) (s : List ℕ) → length (joined waiting) + length s ≤ 504
     → placed (drafted waiting) (8 + length (joined waiting)) s ≡ drafted (waiting ++ (s ∷ []))
 drafted-next waiting s fits =
@@ -85,6 +89,7 @@ drafted-next waiting s fits =
     ∙ ap (λ (n : ℕ). zeros 8 ++ ((j ++ s) ++ zeros n)) rest
     ∙ ap (λ (l : List ℕ). zeros 8 ++ (l ++ zeros (504 - length l))) (sym (joined-last waiting s))
 
+-- its body is that of the posts' block
 pub drafted-body : (posts : List (List ℕ)) → length (joined posts) ≤ 500 → bodyOf (drafted posts) ≡ postsBody posts
 drafted-body posts fits =
     let j : List ℕ = joined posts in
@@ -105,6 +110,7 @@ pub record Told (posts blocks waiting : List (List ℕ)) (o : Outline) : Type 0 
   pub outline : o ≡ outlineOver freshOutline blocks
   pub formed : EachFormed o waiting
 
+-- a new writer has neither
 pub told-none : Told [] [] [] freshOutline
 unfolding postsInAll
 told-none = record { held = refl; pass = tt; outline = refl; formed = tt }
@@ -164,6 +170,7 @@ pub record Begins (lent : List ℕ) (blocks : List (List ℕ)) (o : Outline) : T
   pub room : length blocks * 512 + 512 ≤ length lent
   pub in-turn : mayPost o ≡ true
 
+-- a page after blocks were written, with posts that wait and all posts that were taken
 pub record Shows (lent : List ℕ) (posts blocks waiting : List (List ℕ)) (p : Page) : Type 0 where
   pub filled : Filled lent blocks (p .bytes) (p .filled)
   pub number : p .draft .tally .blocks ≡ length blocks
@@ -173,6 +180,7 @@ pub record Shows (lent : List ℕ) (posts blocks waiting : List (List ℕ)) (p :
   pub begun : 0 < length waiting → Begins lent blocks (p .draft .tally .outline)
   pub told : Told posts blocks waiting (p .draft .tally .outline)
 
+-- a new writer's page
 pub shows-fresh : (lent : List ℕ) → Shows lent [] [] [] (freshPage lent)
 shows-fresh lent =
     record {

@@ -144,6 +144,7 @@ module _ (lent : List ℕ) (posts blocks waiting : List (List ℕ)) (p : Page) (
 
 -- ---- an end
 
+-- the page once the posts that wait are written
 abbrev lastPage : Page → Page
 lastPage p = turned p (p .draft .tally .waiting) (p .draft .block)
 
