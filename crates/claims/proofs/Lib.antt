@@ -8,3 +8,4 @@ pub mod Demand
 pub mod Weighing
 pub mod Singles
 pub mod Figures
+pub mod Filled
