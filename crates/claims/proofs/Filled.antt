@@ -64,6 +64,13 @@ first-taken u y z f (suc n) e =
     let a = was-taken (takenTo u y f (suc n)) (λ z. postOn u z (f (suc n))) z (sym (taken-suc u y f (suc n)) ∙ e) in
     first-taken u y (a .0) f n (a .1)
 
+-- a run that is taken comes in its turn, to a book that isn't closed
+pub run-admits : (u : Setup) (y z : Year) (f : ℕ → List ℕ) (n : ℕ) → 1 ≤ n → takenTo u y f n ≡ taken z → (mayPost (u .outline) ≡ true) × (y .closed ≡ false)
+run-admits u y z f n some run =
+    let one : suc (n - 1) ≡ n = omega arith in
+    let x = first-taken u y z f (n - 1) (ap (takenTo u y f) one ∙ run) in
+    let a = posted u y (x .0) (f 0) (x .1) .admitted in (a .in-turn, a .is-open)
+
 -- a post that is taken is 48 bytes
 pub taken-long : (u : Setup) (y z : Year) (s : List ℕ) → postOn u y s ≡ taken z → length s ≡ 48
 unfolding moveAt laidOut
@@ -117,14 +124,12 @@ module _ (n : ℕ) (l : List ℕ) (long : length l ≡ n * 48) (some : 1 ≤ n) 
   block-of-posts u y z m frame run =
       let s = blockOf 3 n m (padded 500 l) in
       let b = bookWith u y m in
-      let one : suc (n - 1) ≡ n = omega arith in
-      let first = first-taken u y z (postIn l) (n - 1) (ap (takenTo u y (postIn l)) one ∙ run) in
-      let a = posted u y (first .0) (postIn l 0) (first .1) .admitted in
+      let a = run-admits u y z (postIn l) n some run in
       let body : bodyOf s ≡ padded 500 l = body-made 3 n m (padded 500 l) (padded-long 500 l (omega arith)) in
       let posts : postsOn u y (countOf s) (bodyOf s) ≡ taken z =
           ap (λ (k : ℕ). postsOn u y k (bodyOf s)) (count-made 3 n m (padded 500 l))
           ∙ ap (postsOn u y n) body
-          ∙ own-taken u y n (padded 500 l) (own-passes n (u .outline) (y .closed) (a .in-turn) (a .is-open))
+          ∙ own-taken u y n (padded 500 l) (own-passes n (u .outline) (y .closed) (a .0) (a .1))
           ∙ same-run u y (postIn (padded 500 l)) (postIn l) n (λ i h. post-front i n l (replicate (500 - length l) 0) h long)
           ∙ run in
       is-framed b s frame ∙ by-posts b s (kind-made 3 n m (padded 500 l)) ∙ ap (onYear b) posts

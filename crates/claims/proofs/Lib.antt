@@ -9,3 +9,4 @@ pub mod Weighing
 pub mod Singles
 pub mod Figures
 pub mod Filled
+pub mod Reread
