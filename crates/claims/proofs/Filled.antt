@@ -3,17 +3,16 @@ use mathlib.Core.Path.{_≡_, refl, sym, ap, _∙_}
 use mathlib.Core.Bool.{Bool, true, false}
 use mathlib.Core.List.{List, [], _∷_, _++_}
 use Prim.Native.Nat.{ℕ, zero, suc, _+_, _-_, _*_, _≤_, _<_}
-use native.Mathlib.Nat.{add-mul, mul-le-mul}
 use native.Mathlib.Omega.{arith}
 use borrow.Author.Tests.{eqb-true, eq-eqb, le-leb}
-use lib.Dec.{eqb, leb}
+use lib.Dec.{eqb}
 use lib.ListN.{length, getD, take, drop, replicate, length-append, length-drop, length-replicate, getD-replicate}
-use lib.Seq.{take-at, drop-at, take-append-le, drop-append-le, take-all}
-use Rattle.amounts.specs.Decline.{Answer, taken, declined, check, checked, onTaken, layout}
+use lib.Seq.{drop-at, take-append-le, drop-append-le, take-all}
+use Rattle.amounts.specs.Decline.{Answer, taken, check, checked, onTaken, layout}
 use Rattle.amounts.proofs.decline.Laws.{was-taken}
 use Rattle.layout.specs.Bytes.{allZero, padded}
 use Rattle.layout.specs.Each.{allTo}
-use Rattle.layout.specs.Frame.{blockKind, countOf, bodyOf, frameChecks, blockOf}
+use Rattle.layout.specs.Frame.{countOf, bodyOf, frameChecks, blockOf}
 use Rattle.layout.specs.Outline.{mayPost}
 use Rattle.layout.specs.Posts.{postIn, ownChecks}
 use Rattle.layout.specs.Setup.{within}
@@ -28,7 +27,7 @@ use Rattle.book.specs.Posts.{postOn, takenTo, postsOn}
 use Rattle.book.specs.Site.{bookWith}
 use Rattle.book.specs.declared.site.Year.{Year}
 use Rattle.book.proofs.block.Laws.{is-framed, by-posts}
-use Rattle.book.proofs.posts.Laws.{Posted, posted, taken-suc, none-yet, own-taken}
+use Rattle.book.proofs.posts.Laws.{posted, taken-suc, none-yet, own-taken}
 
 -- ---- posts in bytes
 

@@ -2,16 +2,15 @@
 use mathlib.Core.Path.{_≡_, refl, sym, ap, subst, _∙_}
 use mathlib.Core.Bool.{Bool, true, false, true≢false, cond}
 use mathlib.Core.List.{List, [], _∷_, _++_, append-nil, append-assoc}
-use Prim.Native.Nat.{ℕ, zero, suc, _+_, _*_, _≤_, _<_}
+use Prim.Native.Nat.{ℕ, zero, suc, _+_, _*_, _≤_}
 use native.Mathlib.Numerals.{add-one}
 use native.Mathlib.Omega.{arith}
 use borrow.Author.Tests.{eqb-true, eqb-false, ne-eqb}
 use lib.Dec.{eqb}
-use lib.ListN.{length, take, drop, length-append}
+use lib.ListN.{length, take, length-append}
 use lib.Seq.{take-at, drop-at}
-use Rattle.amounts.specs.Decline.{Answer, taken, declined, Check, check, checked, isTaken, layout, noRoom}
+use Rattle.amounts.specs.Decline.{Answer, taken, Check, check, checked, isTaken, layout, noRoom}
 use Rattle.amounts.proofs.decline.Laws.{was-taken}
-use Rattle.layout.specs.Bytes.{padded}
 use Rattle.layout.specs.Frame.{blockKind, countOf, bodyOf, frameChecks, blockOf}
 use Rattle.layout.specs.Outline.{mayPost, freshOutline}
 use Rattle.layout.specs.Posts.{postIn}
@@ -25,7 +24,7 @@ use Rattle.book.specs.Block.{blockOn}
 use Rattle.book.specs.Posts.{postOn, takenTo, singleOn}
 use Rattle.book.specs.Site.{freshBook, freshSetup, freshYear, bookWith}
 use Rattle.book.specs.Stage.{withStage}
-use Rattle.book.specs.Whole.{partsTo, partsIn, Outcome, read, onward, readAll}
+use Rattle.book.specs.Whole.{partsTo, partsIn, read, onward, readAll}
 use Rattle.book.specs.declared.site.Book.{Book}
 use Rattle.book.specs.declared.site.Year.{Year}
 use Rattle.book.proofs.block.Laws.{Done, set-up, described, block-done}
@@ -35,7 +34,7 @@ use Rattle.book.proofs.posts.Laws.{none-yet}
 use Rattle.book.proofs.setup.Laws as first
 use Rattle.book.proofs.stage.Laws as stage
 use Rattle.text.specs.Print.{title, linesTo}
-use Rattle.journal.specs.Reading.{outcomeText, printedOf}
+use Rattle.journal.specs.Reading.{outcomeText}
 use Rattle.report.specs.Report.{reportAt}
 use Rattle.text.specs.Line.{lineText}
 use Rattle.writer.specs.Calls as calls
@@ -45,10 +44,9 @@ use Rattle.writer.specs.Tally as tally
 use Rattle.writer.specs.Tally.{isFree, kindChecks}
 use Rattle.claims.specs.Singles.{allTaken}
 use Rattle.claims.specs.Standing.{Call, post, block}
-use Rattle.claims.specs.Standing as standing
-use Rattle.claims.specs.Written.{joined, Sheet, ofPosts, sheets, framedFrom, blocksOf, ended, Passes, BlocksPass}
+use Rattle.claims.specs.Written.{joined, Sheet, ofPosts, sheets, framedFrom, blocksOf, ended, BlocksPass}
 use Rattle.claims.specs.Written as written
-use Rattle.claims.specs.Reread.{singly, journalOf, JournalIsItsCalls, FilingIsOfCalls}
+use Rattle.claims.specs.Reread.{singly, JournalIsItsCalls, FilingIsOfCalls}
 use Rattle.claims.proofs.Filled.{run-admits, taken-long, one-more, block-of-posts}
 
 -- ---- the set-ups that a writer takes
