@@ -126,9 +126,9 @@ module _ (n : ℕ) (l : List ℕ) (long : length l ≡ n * 48) (some : 1 ≤ n) 
       let a = run-admits u y z (postIn l) n some run in
       let body : bodyOf s ≡ padded 500 l = body-made 3 n m (padded 500 l) (padded-long 500 l (omega arith)) in
       let posts : postsOn u y (countOf s) (bodyOf s) ≡ taken z =
-          ap (λ (k : ℕ). postsOn u y k (bodyOf s)) (count-made 3 n m (padded 500 l))
-          ∙ ap (postsOn u y n) body
-          ∙ own-taken u y n (padded 500 l) (own-passes n (u .outline) (y .closed) (a .0) (a .1))
-          ∙ same-run u y (postIn (padded 500 l)) (postIn l) n (λ i h. post-front i n l (replicate (500 - length l) 0) h long)
-          ∙ run in
+      ap (λ (k : ℕ). postsOn u y k (bodyOf s)) (count-made 3 n m (padded 500 l))
+      ∙ ap (postsOn u y n) body
+      ∙ own-taken u y n (padded 500 l) (own-passes n (u .outline) (y .closed) (a .0) (a .1))
+      ∙ same-run u y (postIn (padded 500 l)) (postIn l) n (λ i h. post-front i n l (replicate (500 - length l) 0) h long)
+      ∙ run in
       is-framed b s frame ∙ by-posts b s (kind-made 3 n m (padded 500 l)) ∙ ap (onYear b) posts

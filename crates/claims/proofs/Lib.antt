@@ -10,3 +10,4 @@ pub mod Singles
 pub mod Figures
 pub mod Filled
 pub mod Reread
+pub mod Worked

@@ -7,7 +7,7 @@ use native.Mathlib.Numerals.{add-one}
 use native.Mathlib.Omega.{arith}
 use borrow.Author.Tests.{eqb-true, eqb-false, ne-eqb}
 use lib.Dec.{eqb}
-use lib.ListN.{length, take, length-append}
+use lib.ListN.{length, length-append}
 use lib.Seq.{take-at, drop-at}
 use Rattle.amounts.specs.Decline.{Answer, taken, Check, check, checked, isTaken, layout, noRoom}
 use Rattle.amounts.proofs.decline.Laws.{was-taken}
@@ -43,7 +43,6 @@ use Rattle.writer.specs.Page.{Page, freshPage, draftOf, withBlock, setUpOn}
 use Rattle.writer.specs.Tally as tally
 use Rattle.writer.specs.Tally.{isFree, kindChecks}
 use Rattle.claims.specs.Singles.{allTaken}
-use Rattle.claims.specs.Standing.{Call, post, block}
 use Rattle.claims.specs.Written.{joined, Sheet, ofPosts, sheets, framedFrom, blocksOf, ended, BlocksPass}
 use Rattle.claims.specs.Written as written
 use Rattle.claims.specs.Reread.{singly, JournalIsItsCalls, FilingIsOfCalls}
@@ -64,6 +63,7 @@ unfolding checked
 first-check true n rows a e = refl
 first-check false n rows a e = e
 
+-- a set-up that the writer takes has such a kind
 writer-kind : (p : Page) (kind count : ℕ) (body : List ℕ) → isTaken (setUpOn p kind count body) ≡ true → within 1 2 kind ≡ true
 unfolding setUpOn
 writer-kind p kind count body e =
@@ -71,6 +71,7 @@ writer-kind p kind count body e =
     first-check (within 1 2 kind) layout (kindChecks (t .outline) kind count body ++ (check (isFree (length (p .bytes)) t) noRoom ∷ []))
     (withBlock p (blockOf kind count (t .blocks) body) (draftOf (tally.setUp t kind count body) (p .draft .block))) e
 
+-- a call that is kept, or not
 keep-set-up : (t : Bool) (kind count : ℕ) (body : List ℕ) (cs : List calls.Call) → (t ≡ true → within 1 2 kind ≡ true) → Kinds cs → Kinds (calls.keep t (setUp kind count body) cs)
 keep-set-up true kind count body cs k rest = (k refl, rest)
 keep-set-up false kind count body cs k rest = rest
@@ -79,6 +80,7 @@ keep-post : (t : Bool) (s : List ℕ) (cs : List calls.Call) → Kinds cs → Ki
 keep-post true s cs rest = rest
 keep-post false s cs rest = rest
 
+-- of all that a writer accepts, from any page on
 kinds-accepted : (p : Page) (list : List calls.Call) → Kinds (accepted p list)
 unfolding accepted
 kinds-accepted p [] = tt
@@ -100,17 +102,20 @@ takes [] a e = refl
 takes (check true n ∷ rows) a e = takes rows a e
 takes (check false n ∷ rows) a e = absurd (true≢false (sym e))
 
+-- what passes 1 to 3 and more passes 1 to 3
 frames : (place : ℕ) (o : Outline) (list : List (List ℕ)) → written.AllPass place o list → Frames place list
 frames place o [] h = tt
 frames place o (s ∷ rest) h = (takes (frameChecks place s) s (h .0 .frame), frames (suc place) (written.outlinePast o s) rest (h .1))
 
 -- ---- blocks joined are parted again
 
+-- no bytes have no parts
 parts-none : (n : ℕ) → partsTo n [] ≡ []
 unfolding partsTo
 parts-none zero = refl
 parts-none (suc n) = refl
 
+-- as many parts as there are blocks are enough
 parts-to : (place n : ℕ) (list : List (List ℕ)) → Frames place list → length list ≤ n → partsTo n (joined list) ≡ list
 unfolding partsTo joined
 parts-to place n [] h few = parts-none n
@@ -121,6 +126,7 @@ parts-to place (suc n) (s ∷ rest) h few =
     let more = parts-to (suc place) n rest (h .1) (omega arith) in
     rw (some, take-at s (joined rest) 512 long, drop-at s (joined rest) 512 long, more)
 
+-- and there are no more blocks than bytes
 joined-many : (place : ℕ) (list : List (List ℕ)) → Frames place list → length list ≤ length (joined list)
 unfolding joined
 joined-many place [] h = omega arith
@@ -128,6 +134,7 @@ joined-many place (s ∷ rest) h =
     let long : length s ≡ 512 = framed place s s s (h .0) .0 .long in
     omega (arith, length-append s (joined rest), joined-many (suc place) rest (h .1))
 
+-- so that the parts are the blocks
 parts-joined : (place : ℕ) (list : List (List ℕ)) → Frames place list → partsIn (joined list) ≡ list
 parts-joined place list h = parts-to place (length (joined list)) list h (joined-many place list h)
 
@@ -137,10 +144,12 @@ parts-joined place list h = parts-to place (length (joined list)) list h (joined
 abbrev Reads : Setup → Year → ℕ → ℕ → List (List ℕ) → Book → Type 0
 Reads u y m place list b = readAll (bookWith u y m) place list ≡ read (bookWith (b .setup) (b .year) (m + length list))
 
+-- no block
 reads-none : (u : Setup) (y : Year) (m place k : ℕ) → Reads u y m place [] (bookWith u y k)
 unfolding readAll
 reads-none u y m place k = let e : m ≡ m + 0 = omega arith in ap (λ (n : ℕ). read (bookWith u y n)) e
 
+-- a block that is taken, and then the rest
 reads-next : (u v : Setup) (y z : Year) (m place : ℕ) (s : List ℕ) (rest : List (List ℕ)) (b : Book) → blockOn (bookWith u y m) s ≡ taken (bookWith v z (m + 1))
     → Reads v z (suc m) (suc place) rest b → Reads u y m place (s ∷ rest) b
 unfolding readAll
@@ -166,6 +175,7 @@ joint-none : (u : Setup) (y : Year) (m k : ℕ) → (mayPost (u .outline) ≡ fa
 unfolding joined takenTo
 joint-none u y m k h = record { long = omega arith; few = omega arith; run = refl; before = λ e. (refl, h e) }
 
+-- where none waits, the list is empty and both books have the same year
 none-waits : (l : List (List ℕ)) → length l ≡ 0 → l ≡ []
 none-waits [] e = refl
 none-waits (x ∷ l) e = absurd (omega arith)
@@ -316,6 +326,7 @@ same-lines b blocks zero = refl
 same-lines b blocks (suc n) = ap (λ (l : List ℕ). l ++ lineText (reportAt b n)) (same-lines b blocks n)
 
 module _ (blocks-pass : BlocksPass) where
+  -- 4: a fresh book takes the written journal, and is the book that took the calls singly, but for its block number
   pub journal-is-its-calls : JournalIsItsCalls
   unfolding blocksOf
   journal-is-its-calls lent list b e =
@@ -326,5 +337,6 @@ module _ (blocks-pass : BlocksPass) where
       ∙ reads-all cs (kinds-accepted (freshPage lent) list) freshSetup freshYear freshYear [] 0 0 0 b (joint-none freshSetup freshYear 0 0 (λ t. refl)) f e
       ∙ ap (λ (n : ℕ). read (bookWith (b .setup) (b .year) n)) zero-more
 
+  -- 5: what is printed of the journal is what the reports of that book say
   pub filing-is-of-calls : FilingIsOfCalls
   filing-is-of-calls lent list b e = ap outcomeText (journal-is-its-calls lent list b e) ∙ ap (λ (l : List ℕ). title ++ l) (same-lines b _ (b .setup .outline .substances))
