@@ -12,7 +12,7 @@ use Rattle.amounts.specs.Decline.{Answer, taken, check, checked, onTaken, layou
 use Rattle.amounts.proofs.decline.Laws.{was-taken}
 use Rattle.layout.specs.Bytes.{allZero, padded}
 use Rattle.layout.specs.Each.{allTo}
-use Rattle.layout.specs.Frame.{countOf, bodyOf, frameChecks, blockOf}
+use Rattle.layout.specs.Frame.{bodyOf, frameChecks, blockOf}
 use Rattle.layout.specs.Outline.{mayPost}
 use Rattle.layout.specs.Posts.{postIn, ownChecks}
 use Rattle.layout.specs.Setup.{within}
@@ -117,18 +117,25 @@ module _ (n : ℕ) (l : List ℕ) (long : length l ≡ n * 48) (some : 1 ≤ n) 
       let rest = drop-at l (replicate (500 - length l) 0) (n * 48) long in
       rw (t, c, eq-eqb _ _ size, within-it, rest, zeros (500 - length l))
 
-  -- the block, framed as the next, and the book after it
-  pub block-of-posts : (u : Setup) (y z : Year) (m : ℕ) → checked (frameChecks m (blockOf 3 n m (padded 500 l))) (blockOf 3 n m (padded 500 l)) ≡ taken (blockOf 3 n m (padded 500 l))
-      → takenTo u y (postIn l) n ≡ taken z → blockOn (bookWith u y m) (blockOf 3 n m (padded 500 l)) ≡ taken (bookWith u z (m + 1))
-  block-of-posts u y z m frame run =
-      let s = blockOf 3 n m (padded 500 l) in
-      let b = bookWith u y m in
+  -- the posts of the body are those of the bytes
+  posts-of-body : (u : Setup) (y z : Year) → takenTo u y (postIn l) n ≡ taken z → postsOn u y n (padded 500 l) ≡ taken z
+  posts-of-body u y z run =
       let a = run-admits u y z (postIn l) n some run in
-      let body : bodyOf s ≡ padded 500 l = body-made 3 n m (padded 500 l) (padded-long 500 l (omega arith)) in
-      let posts : postsOn u y (countOf s) (bodyOf s) ≡ taken z =
-      ap (λ (k : ℕ). postsOn u y k (bodyOf s)) (count-made 3 n m (padded 500 l))
-      ∙ ap (postsOn u y n) body
-      ∙ own-taken u y n (padded 500 l) (own-passes n (u .outline) (y .closed) (a .0) (a .1))
+      own-taken u y n (padded 500 l) (own-passes n (u .outline) (y .closed) (a .0) (a .1))
       ∙ same-run u y (postIn (padded 500 l)) (postIn l) n (λ i h. post-front i n l (replicate (500 - length l) 0) h long)
-      ∙ run in
-      is-framed b s frame ∙ by-posts b s (kind-made 3 n m (padded 500 l)) ∙ ap (onYear b) posts
+      ∙ run
+
+  module _ (m : ℕ) where
+    abbrev made : List ℕ
+    made = blockOf 3 n m (padded 500 l)
+
+    -- the block, framed as the next, and the book after it
+    pub block-of-posts : (u : Setup) (y z : Year) → checked (frameChecks m made) made ≡ taken made → takenTo u y (postIn l) n ≡ taken z
+        → blockOn (bookWith u y m) made ≡ taken (bookWith u z (m + 1))
+    block-of-posts u y z frame run =
+        let b = bookWith u y m in
+        is-framed b made frame
+        ∙ by-posts b made (kind-made 3 n m (padded 500 l))
+        ∙ ap (λ (k : ℕ). onYear b (postsOn u y k (bodyOf made))) (count-made 3 n m (padded 500 l))
+        ∙ ap (λ (body : List ℕ). onYear b (postsOn u y n body)) (body-made 3 n m (padded 500 l) (padded-long 500 l (omega arith)))
+        ∙ ap (onYear b) (posts-of-body u y z run)

@@ -191,7 +191,7 @@ reads-waiting : (u : Setup) (y z : Year) (waiting : List (List ℕ)) (m place : 
     → Frames m (framedFrom m (ofPosts waiting ∷ xs)) → Reads u y m place (framedFrom m (ofPosts waiting ∷ xs)) b
 unfolding framedFrom
 reads-waiting u y z waiting m place xs b long some few run rest h =
-    reads-next u u y z m place _ (framedFrom (suc m) xs) b (block-of-posts (length waiting) (joined waiting) long some few u y z m (h .0) run) (rest (h .1))
+    reads-next u u y z m place _ (framedFrom (suc m) xs) b (block-of-posts (length waiting) (joined waiting) long some few m u y z (h .0) run) (rest (h .1))
 
 -- ---- a call more
 
