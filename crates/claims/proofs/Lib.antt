@@ -9,3 +9,6 @@ pub mod Weighing
 pub mod Singles
 pub mod Figures
 pub mod written
+pub mod Filled
+pub mod Reread
+pub mod Worked
