@@ -1,13 +1,12 @@
 -- What a writer has, as a page: the lent buffer's bytes, how many are filled, and the block being filled; and what its calls make of it (document 02, (a)).
-use Prim.Native.Nat.{ℕ, _+_, _*_, _≤_, _<_}
+use Prim.Native.Nat.{ℕ, _+_, _*_}
 use mathlib.Core.Path.{_≡_}
-use mathlib.Core.Bool.{Bool, true, cond}
+use mathlib.Core.Bool.{cond}
 use mathlib.Core.List.{List}
 use lib.Dec.{eqb}
 use lib.ListN.{length, replicate}
 use Rattle.amounts.specs.Decline.{Answer, taken, checked, onTaken, valueOr}
 use Rattle.layout.specs.Frame.{bodyOf, blockOf}
-use Rattle.layout.specs.Outline.{mayPost}
 use Rattle.layout.specs.Verdict.{verdictOf}
 use Rattle.layout.specs.declared.verdict.Verdict.{Verdict}
 use Rattle.writer.specs.Frame.{placed}
@@ -81,18 +80,9 @@ ended p = cond (eqb (p .draft .tally .waiting) 0) p (turned p (p .draft .tally .
 
 -- ---- what is true of every writer
 
--- a block that is begun has its room, and its posts are in their turn
-pub record Begun (p : Page) : Type 0 where
-  pub number : p .draft .tally .blocks < 65536
-  pub room : p .filled + 512 ≤ length (p .bytes)
-  pub in-turn : mayPost (p .draft .tally .outline) ≡ true
-
 pub record Sound (p : Page) : Type 0 where
-  pub few : p .draft .tally .waiting < 10
-  pub blocks-few : p .draft .tally .blocks ≤ 65536
+  pub counted : tally.Sound (length (p .bytes)) (p .draft .tally)
   pub filled-is : p .filled ≡ p .draft .tally .blocks * 512
-  pub within : p .filled ≤ length (p .bytes)
-  pub begun : 0 < p .draft .tally .waiting → Begun p
 
 -- what a call answers, and the page after it: as it was where the call is declined
 pub record Answers (p : Page) (a : Answer Page) (v : Verdict) (q : Page) : Type 0 where

@@ -1,13 +1,16 @@
 -- How far a writer has come, and what its calls answer (document 02, (a)). None of it asks for the bytes that are written.
-use Prim.Native.Nat.{ℕ, _+_, _*_}
+use Prim.Native.Nat.{ℕ, _+_, _*_, _≤_, _<_}
+use mathlib.Core.Path.{_≡_}
 use mathlib.Core.Bool.{Bool, true, _&&_, cond}
 use mathlib.Core.List.{List, [], _∷_, _++_}
 use lib.Dec.{eqb, leb, ltb}
-use Rattle.amounts.specs.Decline.{Answer, Check, check, checked, onTaken, outOfTurn, layout, noRoom}
+use Rattle.amounts.specs.Decline.{Answer, taken, Check, check, checked, onTaken, valueOr, outOfTurn, layout, noRoom}
 use Rattle.layout.specs.Outline.{freshOutline, withDescribed, mayPost}
 use Rattle.layout.specs.Setup.{within, outlineOf, setupChecks}
 use Rattle.layout.specs.Stage.{stageChecks}
+use Rattle.layout.specs.Verdict.{verdictOf}
 use Rattle.layout.specs.declared.outline.Outline.{Outline}
+use Rattle.layout.specs.declared.verdict.Verdict.{Verdict}
 use Rattle.post.specs.Kind.{Row}
 use Rattle.post.specs.Moves.{wellFormed}
 use Rattle.writer.specs.declared.tally.Tally.{Tally}
@@ -64,3 +67,33 @@ outlineAfter o kind count body = cond (eqb kind 1) (outlineOf count body) (withD
 
 unfoldable pub setUp : Tally → ℕ → ℕ → List ℕ → Tally
 setUp t kind count body = tallyOf (outlineAfter (t .outline) kind count body) (t .waiting) (t .blocks + 1)
+
+-- ---- each call on a tally
+
+unfoldable pub setUpOn : ℕ → Tally → ℕ → ℕ → List ℕ → Answer Tally
+unfolding checked setUp
+setUpOn room t kind count body = checked (setUpChecks room t kind count body) (setUp t kind count body)
+
+unfoldable pub postOn : ℕ → Tally → List ℕ → Answer Tally
+unfolding postAnswer posted
+postOn room t s = onTaken (postAnswer room t s) (λ _. taken (posted t))
+
+-- ---- what is true of every writer's tally
+
+-- a block that is begun has its room, and its posts are in their turn
+pub record Begun (room : ℕ) (t : Tally) : Type 0 where
+  pub number : t .blocks < 65536
+  pub room-left : t .blocks * 512 + 512 ≤ room
+  pub in-turn : mayPost (t .outline) ≡ true
+
+pub record Sound (room : ℕ) (t : Tally) : Type 0 where
+  pub few : t .waiting < 10
+  pub blocks-few : t .blocks ≤ 65536
+  pub within : t .blocks * 512 ≤ room
+  pub begun : 0 < t .waiting → Begun room t
+
+-- what a call answers, and the tally after it: as it was where the call is declined
+pub record Counts (room : ℕ) (t : Tally) (a : Answer Tally) (v : Verdict) (q : Tally) : Type 0 where
+  pub verdict : v ≡ verdictOf a
+  pub after : q ≡ valueOr t a
+  pub sound : Sound room q

@@ -1,9 +1,12 @@
 // What a writer does with a lent buffer, its filled length and the block being filled.
 ghost use mathlib.Core.Path.{_≡_};
-ghost use Prim.Native.Nat.{_≤_, _<_};
+ghost use Prim.Native.Nat.{_+_, _≤_, _<_};
+ghost use lib.ListN.{length};
 ghost use Rattle.amounts.specs.Decline.{taken};
+ghost use Rattle.layout.specs.Frame.{bodyOf, blockOf};
 ghost use Rattle.layout.specs.declared.verdict.Verdict.the-variants.{Accepted};
-ghost use Rattle.writer.specs.Page.{pageOf, freshDraft, withPost, turned, setUpOn, postOn, ended, Begun, Sound, Answers};
+ghost use Rattle.writer.specs.Frame.{placed};
+ghost use Rattle.writer.specs.Page.{pageOf, freshDraft, setUpOn, postOn, ended, Sound, Answers};
 ghost use Rattle.writer.specs.Tally.{freshTally};
 use crate::draft;
 use crate::draft::Draft;
@@ -25,6 +28,25 @@ pub fn fresh() -> Draft
     draft::begun(tally::fresh())
 }
 
+// The block of a body is put behind what is filled. How many bytes are then filled.
+fn put_block(
+    buffer: &mut [u8],
+    filled: usize,
+    block: [u8; 512],
+    kind: u8,
+    count: u8,
+    number: u32,
+) -> usize
+    requires { ⌜ number < 65536 ⌝ }
+    requires { ⌜ filled + 512 ≤ length (now buffer) ⌝ }
+    ensures { λ r. ⌜ r ≡ filled + 512 ⌝ }
+    ensures { λ _. ⌜ now (buffer .exit) ≡ placed (now (buffer .entry)) filled (blockOf kind count number (bodyOf block)) ⌝ }
+{
+    let whole = frame::framed(block, kind, count, number as u16);
+    frame::put(buffer, filled, &whole);
+    filled + 512
+}
+
 // A set-up block of any kind, count and body.
 pub fn take_set_up(
     buffer: &mut [u8],
@@ -35,86 +57,87 @@ pub fn take_set_up(
     body: &[u8],
 ) -> Taken
     requires { ⌜ Sound (pageOf (now buffer) filled d) ⌝ }
-    ensures { λ r. ⌜ Answers (pageOf (now (buffer .entry)) filled d) (setUpOn (pageOf (now (buffer .entry)) filled d) kind count (now (body .entry))) (r .verdict) (pageOf (now (buffer .exit)) (r .filled) (r .draft)) ⌝ }
+    ensures { λ r. ⌜ Answers (pageOf (now (buffer .entry)) filled d) (setUpOn (pageOf (now (buffer .entry)) filled d) kind count (now (body .entry)))
+        (r .verdict) (pageOf (now (buffer .exit)) (r .filled) (r .draft)) ⌝ }
 {
     let t = d.tally;
-    if let Verdict::Declined(x) = tally::check_set_up(buffer.len(), t, kind, count, body) {
+    let told = tally::set_up(buffer.len(), t, kind, count, body);
+    let v = told.verdict;
+    if let Verdict::Declined(x) = v {
         return Taken {
             verdict: Verdict::Declined(x),
             filled,
             draft: d,
         };
     }
-    let mut block = [0; 512];
-    frame::put(&mut block, 8, body);
-    let written = frame::framed(block, kind, count, t.blocks as u16);
-    frame::put(buffer, filled, &written);
-    let end = filled + 512;
-    let next = Tally {
-        outline: tally::outline_after(t.outline, kind, count, body),
-        waiting: t.waiting,
-        blocks: t.blocks + 1,
-    };
+    let mut whole = [0; 512];
+    frame::put(&mut whole, 8, body);
+    let end = put_block(buffer, filled, whole, kind, count, t.blocks);
+    let tally = told.tally;
+    let block = d.block;
     Taken {
         verdict: Verdict::Accepted,
         filled: end,
-        draft: Draft {
-            tally: next,
-            block: d.block,
-        },
+        draft: Draft { tally, block },
     }
 }
 
 // The block of so many posts is written, and the next one begun.
-fn turn(buffer: &mut [u8], filled: usize, t: Tally, count: usize, block: [u8; 512]) -> Taken
-    requires { ⌜ Begun (pageOf (now buffer) filled (record { tally = t; block = block })) ⌝ }
-    requires { ⌜ count ≤ 10 ⌝ }
-    ensures { λ r. ⌜ Answers (pageOf (now (buffer .entry)) filled (record { tally = t; block = block })) (taken (turned (pageOf (now (buffer .entry)) filled (record { tally = t; block = block })) count block)) (r .verdict) (pageOf (now (buffer .exit)) (r .filled) (r .draft)) ⌝ }
+fn turn(
+    buffer: &mut [u8],
+    filled: usize,
+    block: [u8; 512],
+    count: u8,
+    number: u32,
+    next: Tally,
+) -> Taken
+    requires { ⌜ number < 65536 ⌝ }
+    requires { ⌜ filled + 512 ≤ length (now buffer) ⌝ }
+    ensures { λ r. ⌜ r ≡ record { verdict = Accepted; filled = filled + 512; draft = freshDraft next } ⌝ }
+    ensures { λ _. ⌜ now (buffer .exit) ≡ placed (now (buffer .entry)) filled (blockOf 3 count number (bodyOf block)) ⌝ }
 {
-    let written = frame::framed(block, 3, count as u8, t.blocks as u16);
-    frame::put(buffer, filled, &written);
-    let end = filled + 512;
+    let end = put_block(buffer, filled, block, 3, count, number);
     Taken {
         verdict: Verdict::Accepted,
         filled: end,
-        draft: draft::begun(tally::turn(t)),
+        draft: draft::begun(next),
     }
 }
 
 // A post of any bytes.
 pub fn take_post(buffer: &mut [u8], filled: usize, d: Draft, post: &[u8]) -> Taken
     requires { ⌜ Sound (pageOf (now buffer) filled d) ⌝ }
-    ensures { λ r. ⌜ Answers (pageOf (now (buffer .entry)) filled d) (postOn (pageOf (now (buffer .entry)) filled d) (now (post .entry))) (r .verdict) (pageOf (now (buffer .exit)) (r .filled) (r .draft)) ⌝ }
+    ensures { λ r. ⌜ Answers (pageOf (now (buffer .entry)) filled d) (postOn (pageOf (now (buffer .entry)) filled d) (now (post .entry)))
+        (r .verdict) (pageOf (now (buffer .exit)) (r .filled) (r .draft)) ⌝ }
 {
     let t = d.tally;
-    if let Verdict::Declined(x) = tally::check_post(buffer.len(), t, post) {
+    let told = tally::post(buffer.len(), t, post);
+    let v = told.verdict;
+    if let Verdict::Declined(x) = v {
         return Taken {
             verdict: Verdict::Declined(x),
             filled,
             draft: d,
         };
     }
+    let tally = told.tally;
     let mut block = d.block;
     frame::put(&mut block, 8 + t.waiting * 48, post);
     if t.waiting == 9 {
-        return turn(buffer, filled, t, 10, block);
+        return turn(buffer, filled, block, 10, t.blocks, tally);
     }
-    let next = Tally {
-        outline: t.outline,
-        waiting: t.waiting + 1,
-        blocks: t.blocks,
-    };
     Taken {
         verdict: Verdict::Accepted,
         filled,
-        draft: Draft { tally: next, block },
+        draft: Draft { tally, block },
     }
 }
 
 // The posts that wait, if any, are written as a block.
 pub fn end_posts(buffer: &mut [u8], filled: usize, d: Draft) -> Taken
     requires { ⌜ Sound (pageOf (now buffer) filled d) ⌝ }
-    ensures { λ r. ⌜ Answers (pageOf (now (buffer .entry)) filled d) (taken (ended (pageOf (now (buffer .entry)) filled d))) (r .verdict) (pageOf (now (buffer .exit)) (r .filled) (r .draft)) ⌝ }
+    ensures { λ r. ⌜ Answers (pageOf (now (buffer .entry)) filled d) (taken (ended (pageOf (now (buffer .entry)) filled d)))
+        (r .verdict) (pageOf (now (buffer .exit)) (r .filled) (r .draft)) ⌝ }
 {
     let t = d.tally;
     if t.waiting == 0 {
@@ -124,6 +147,8 @@ pub fn end_posts(buffer: &mut [u8], filled: usize, d: Draft) -> Taken
             draft: d,
         };
     }
+    let told = tally::end(buffer.len(), t);
+    let next = told.tally;
     let block = d.block;
-    turn(buffer, filled, t, t.waiting, block)
+    turn(buffer, filled, block, t.waiting as u8, t.blocks, next)
 }

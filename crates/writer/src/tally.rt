@@ -1,9 +1,10 @@
 // How far a writer has come, and what its calls answer.
 ghost use mathlib.Core.Path.{_≡_};
-ghost use Prim.Native.Nat.{_≤_, _<_};
-ghost use Rattle.amounts.specs.Decline.{checked};
+ghost use Prim.Native.Nat.{_<_};
+ghost use Rattle.amounts.specs.Decline.{taken, checked};
 ghost use Rattle.layout.specs.Verdict.{verdictOf};
-ghost use Rattle.writer.specs.Tally.{freshTally, isFree, kindChecks, setUpChecks, mayBegin, postAnswer, turned, outlineAfter};
+ghost use Rattle.layout.specs.declared.verdict.Verdict.the-variants.{Accepted};
+ghost use Rattle.writer.specs.Tally.{freshTally, isFree, kindChecks, setUpChecks, mayBegin, postAnswer, turned, ended, outlineAfter, setUpOn, postOn, Sound, Counts};
 use amounts::decline;
 use layout::outline;
 use layout::outline::Outline;
@@ -18,6 +19,12 @@ pub struct Tally {
     pub outline: Outline,
     pub waiting: usize,
     pub blocks: u32,
+}
+
+// What a call answers, and how far the writer has come after it.
+pub struct Counted {
+    pub verdict: Verdict,
+    pub tally: Tally,
 }
 
 pub fn fresh() -> Tally
@@ -64,7 +71,7 @@ fn check_kind(o: Outline, kind: u8, count: u8, body: &[u8]) -> Verdict
 }
 
 // A set-up block's verdict, in a buffer of so many bytes.
-pub fn check_set_up(room: usize, t: Tally, kind: u8, count: u8, body: &[u8]) -> Verdict
+fn check_set_up(room: usize, t: Tally, kind: u8, count: u8, body: &[u8]) -> Verdict
     ensures { λ r. ⌜ r ≡ verdictOf (checked (setUpChecks room t kind count (now (body .entry))) (tt {0})) ⌝ }
 {
     if !setup::is_within(1, 2, kind) {
@@ -78,7 +85,7 @@ pub fn check_set_up(room: usize, t: Tally, kind: u8, count: u8, body: &[u8]) -> 
 }
 
 // A post's verdict, in a buffer of so many bytes.
-pub fn check_post(room: usize, t: Tally, s: &[u8]) -> Verdict
+fn check_post(room: usize, t: Tally, s: &[u8]) -> Verdict
     ensures { λ r. ⌜ r ≡ verdictOf (postAnswer room t (now (s .entry))) ⌝ }
 {
     let o = t.outline;
@@ -92,18 +99,22 @@ pub fn check_post(room: usize, t: Tally, s: &[u8]) -> Verdict
 }
 
 // A block is written, and no post waits.
-pub(crate) fn turn(t: Tally) -> Tally
-    requires { ⌜ t .blocks ≤ 65536 ⌝ }
-    ensures { λ r. ⌜ r ≡ turned t ⌝ }
+fn turn(t: Tally) -> Counted
+    requires { ⌜ t .blocks < 65536 ⌝ }
+    ensures { λ r. ⌜ r ≡ record { verdict = Accepted; tally = turned t } ⌝ }
 {
-    Tally {
-        outline: t.outline,
-        waiting: 0,
-        blocks: t.blocks + 1,
+    let outline = t.outline;
+    Counted {
+        verdict: Verdict::Accepted,
+        tally: Tally {
+            outline,
+            waiting: 0,
+            blocks: t.blocks + 1,
+        },
     }
 }
 
-pub(crate) fn outline_after(o: Outline, kind: u8, count: u8, body: &[u8]) -> Outline
+fn outline_after(o: Outline, kind: u8, count: u8, body: &[u8]) -> Outline
     requires { ⌜ count < 255 ⌝ }
     ensures { λ r. ⌜ r ≡ outlineAfter o kind count (now (body .entry)) ⌝ }
 {
@@ -116,4 +127,66 @@ pub(crate) fn outline_after(o: Outline, kind: u8, count: u8, body: &[u8]) -> Out
         stages: o.stages,
         described: count + 1,
     }
+}
+
+// A set-up block of any kind, count and body.
+pub fn set_up(room: usize, t: Tally, kind: u8, count: u8, body: &[u8]) -> Counted
+    requires { ⌜ Sound room t ⌝ }
+    ensures { λ r. ⌜ Counts room t (setUpOn room t kind count (now (body .entry))) (r .verdict) (r .tally) ⌝ }
+{
+    if let Verdict::Declined(d) = check_set_up(room, t, kind, count, body) {
+        return Counted {
+            verdict: Verdict::Declined(d),
+            tally: t,
+        };
+    }
+    let o = t.outline;
+    let outline = outline_after(o, kind, count, body);
+    Counted {
+        verdict: Verdict::Accepted,
+        tally: Tally {
+            outline,
+            waiting: t.waiting,
+            blocks: t.blocks + 1,
+        },
+    }
+}
+
+// A post of any bytes.
+pub fn post(room: usize, t: Tally, s: &[u8]) -> Counted
+    requires { ⌜ Sound room t ⌝ }
+    ensures { λ r. ⌜ Counts room t (postOn room t (now (s .entry))) (r .verdict) (r .tally) ⌝ }
+{
+    if let Verdict::Declined(d) = check_post(room, t, s) {
+        return Counted {
+            verdict: Verdict::Declined(d),
+            tally: t,
+        };
+    }
+    if t.waiting == 9 {
+        return turn(t);
+    }
+    let outline = t.outline;
+    Counted {
+        verdict: Verdict::Accepted,
+        tally: Tally {
+            outline,
+            waiting: t.waiting + 1,
+            blocks: t.blocks,
+        },
+    }
+}
+
+// An end: the posts that wait, if any, are a block.
+pub fn end(room: usize, t: Tally) -> Counted
+    requires { ⌜ Sound room t ⌝ }
+    ensures { λ r. ⌜ Counts room t (taken (ended t)) (r .verdict) (r .tally) ⌝ }
+{
+    if t.waiting == 0 {
+        return Counted {
+            verdict: Verdict::Accepted,
+            tally: t,
+        };
+    }
+    turn(t)
 }
