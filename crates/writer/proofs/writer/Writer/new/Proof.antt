@@ -1,4 +1,5 @@
--- `writer::Writer::new` meets its contract: a walk of its MIR, by hand. The borrow of the slice goes into the result as it is, beside the number 0 and the draft that `fresh` returned. All that the proof knows of `fresh` is that it meets its contract.
+-- `writer::Writer::new` meets its contract: a walk of its MIR, by hand. The borrow of the slice goes into the result as it is, beside the number 0 and the draft that `fresh` returned.
+-- All that the proof knows of `fresh` is that it meets its contract.
 -- The parameter is spent: the result names its lifetime, so nothing is had of it at exit, and `buffer .entry` is all that the contract can say.
 -- Assumes nothing.
 use mathlib.Core.Path.{_≡_, refl, sym, ap, subst}
@@ -41,11 +42,12 @@ use denote.Triple.Clauses.{ensured, lasts}
 use denote.Triple.Table.{entered, cited}
 use denote.Triple.Walked.{says, Stays, stay-dropped, walkOf, goes-spent-slice, Walks, ends-at, walked, walk-meets}
 use denote.Exit.{no}
-use Rattle.writer.specs.Page.{pageOf, freshDraft, freshPage, Sound}
+use Rattle.writer.specs.Page.{freshDraft, freshPage, Sound}
 use Rattle.writer.specs.Tally.{freshTally}
 use Rattle.writer.specs.Writer.{page}
 use Rattle.writer.specs.declared.draft.Draft.{Draft}
 use Rattle.writer.specs.declared.writer.Writer.{Writer}
+use Rattle.writer.proofs.Held.{draft-val}
 use Rattle.writer.proofs.draft.Draft as D
 use Rattle.writer.proofs.draft.Draft.Laws as D′
 use Rattle.writer.proofs.page.fresh as fresh
@@ -64,11 +66,7 @@ stayed = (stay-dropped (mutSliceOf (0 ∷ []) tt (plain (λ _. u8))) no, tt)
 
 -- nothing is filled, and no post waits
 fresh-sound : (lent : List ℕ) → Sound (freshPage lent)
-fresh-sound lent = record { few = lit< tt; blocks-few = omega arith; filled-is = refl; within = omega arith; begun = λ p. absurd (omega (arith, p)) }
-
--- a draft's machine value
-abbrev draft-val : Draft → Val
-draft-val = LL.val D.the-type D′.the-laws
+fresh-sound lent = record { counted = record { few = lit< tt; blocks-few = omega arith; within = omega arith; begun = λ p. absurd (omega (arith, p)) }; filled-is = refl }
 
 module _ {M : Type 1} (𝓤 : URA M) (H : Heap 𝓤) (A : Atoms 𝓤) (mem : Memory → SProp 𝓤) (run : Routine → Fun 𝓤) where
   -- the contract that the proof cites, and of its `ensured` the clause alone: it has no last value
@@ -107,10 +105,12 @@ module _ {M : Type 1} (𝓤 : URA M) (H : Heap 𝓤) (A : Atoms 𝓤) (W : Given
   exits : (d : Draft) → Is D.the-row d (draft-val d ∷ []) → d ≡ freshDraft freshTally → ent 𝓤 (onEntry 𝓤 H A new.signature (κ, tt) (q, tt) (x, tt) at) (Post (w d))
   exits d is e =
       qed W ((‵ (flft κ q) ⊛ ‵ ftrue) ∷ ‵ (owns (MutSlice (named 0) κ u8 ∷ []) (x, tt) at) ∷ []) ∵
-      suffices ! _ (ends-at 𝓤 H A new.ended stayed (new.clauses 𝓤 H A mem run) W (((κ, tt), (q, tt), tt, (x, tt), at), tt) (w d) (made d) (tt, tt) (tt, tt)) $ says ! (ap made e, subst (λ (c : Draft). Sound (page (made c))) (sym e) (fresh-sound (x .now))) $
+      suffices ! _ (ends-at 𝓤 H A new.ended stayed (new.clauses 𝓤 H A mem run) W (((κ, tt), (q, tt), tt, (x, tt), at), tt) (w d) (made d) (tt, tt) (tt, tt)) $
+      says ! (ap made e, subst (λ (c : Draft). Sound (page (made c))) (sym e) (fresh-sound (x .now))) $
       frame ! $ fsplit ! $ nothing ! $ move ! (0 ∷ 2 ∷ []) $ fjoin ! $ frame ! $
       -- [what the slice's borrow owns]: with the facts of the number and the draft it is what the struct owns (`Denote/Struct/Rest.antt`)
-      nothing ! $ owned ! D.the-row (Is D.the-row) (LL.makes D.the-type D′.the-plain 𝓤 H A) d _ is $ fjoin ! $ owned ! usize (Is usize) (uint-makes 𝓤 H A W w64) 0 _ (refl, lit< tt) $ fjoin ! $ move ! (1 ∷ 0 ∷ []) $ fjoin ! $ by ! (own-shut 𝓤 H A W (T.the-type α) (T′.the-laws α) (x, (0, (d, tt))))
+      nothing ! $ owned ! D.the-row (Is D.the-row) (LL.makes D.the-type D′.the-plain 𝓤 H A) d _ is $ fjoin ! $ owned ! usize (Is usize) (uint-makes 𝓤 H A W w64) 0 _ (refl, lit< tt) $ fjoin ! $
+      move ! (1 ∷ 0 ∷ []) $ fjoin ! $ by ! (own-shut 𝓤 H A W (T.the-type α) (T′.the-laws α) (x, (0, (d, tt))))
 
   module _ (C : Calls 𝓤 H) (Λ : Loops 𝓤 H) (fm : FmC 𝓤 H (W .laws) C) (known : Triple 𝓤 (C #fresh) (Fresh 𝓤 H A mem run)) where
     walk : Is (MutSlice (named 0) κ u8) x (v ∷ []) → ent 𝓤 (onEntry 𝓤 H A new.signature (κ, tt) (q, tt) (x, tt) at) (WpFn 𝓤 H C Λ code.function (v ∷ []) Post)
@@ -119,18 +119,23 @@ module _ {M : Type 1} (𝓤 : URA M) (H : Heap 𝓤) (A : Atoms 𝓤) (W : Given
         alloc1 ! (λ l₀. alloc1 ! (λ l₁. alloc1 ! (λ l₂. alloc1 ! (λ l₃. alloc1 ! (λ l₄. alloc0 ! $ params1 ! $ pass1 ! (init ! 6 refl (tt, (tt, (record { fits = p .0 .1 .0 }, tt)))) $ pass0 ! $
         -- [_4; room…; _3; …; _2; …; _1; …; room for _0; …]: the slice is lent on, and put together again
         assigns ! (addr ! (from ! (fld ! refl (hop ! (look-in ! 6 (sub ! 0 refl (whole !))) (stop !))))) (from ! (stop !)) (init ! 4 refl (tt, tt)) $
-        assigns ! (agg ! (and-then ! (load ! (from ! (stop !)) (look ! 4 refl)) (and-then ! (load ! (from ! (fld ! refl (stop !))) (look-in ! 6 (sub ! 1 refl (whole !)))) (no-more !)))) (from ! (stop !)) (init ! 2 refl (tt, (tt, (record { fits = p .0 .1 .0 }, tt)))) $
+        assigns ! (agg ! (and-then ! (load ! (from ! (stop !)) (look ! 4 refl)) (and-then ! (load ! (from ! (fld ! refl (stop !))) (look-in ! 6 (sub ! 1 refl (whole !)))) (no-more !))))
+        (from ! (stop !)) (init ! 2 refl (tt, (tt, (record { fits = p .0 .1 .0 }, tt)))) $
         use0 W (raw (Fresh 𝓤 H A mem run .pre to-fresh)) goes $
         calls-at ! fm (Fresh 𝓤 H A mem run) known to-fresh (no-more !) (λ u.
-        use1 W (later (some (λ (d : Draft). (‵ ftrue ⊛ ‵ (D.the-row .own d (u ∷ []))) ⊛ raw (ensured 𝓤 H A fresh.ended (fresh.clauses 𝓤 H A mem run) tt tt tt d)))) (id⊢ 𝓤 _) $ await ! tt $ pick ! (λ d.
-        split ! $ move ! (1 ∷ []) $ use1 W (raw (fact 𝓤 (d ≡ freshDraft freshTally))) (said 𝓤 H A mem run d) $ heard ! (d ≡ freshDraft freshTally) (λ e. split ! $ move ! (1 ∷ []) $
+        use1 W (later (some (λ (d : Draft). (‵ ftrue ⊛ ‵ (D.the-row .own d (u ∷ []))) ⊛ raw (ensured 𝓤 H A fresh.ended (fresh.clauses 𝓤 H A mem run) tt tt tt d)))) (id⊢ 𝓤 _) $
+        await ! tt $ pick ! (λ d. split ! $ move ! (1 ∷ []) $ use1 W (raw (fact 𝓤 (d ≡ freshDraft freshTally))) (said 𝓤 H A mem run d) $
+        heard ! (d ≡ freshDraft freshTally) (λ e. split ! $ move ! (1 ∷ []) $
         -- [the draft's; true; room for _4; …; _3; …; _2; …; _1; …; room for _0; …]
         peeks ! D.the-row (Is D.the-row) (shows 𝓤 H A D.the-row) d (u ∷ []) (λ is₀.
         let is : Is D.the-row d (draft-val d ∷ []) = LL.owes D.the-type D′.the-laws d (LL.owed D.the-type D′.the-laws d _ is₀) in
-        land ! (from ! (stop !)) (init ! 2 refl (LL.lawful D.the-type D′.the-laws 𝓤 H A W .typed d _ is₀ .0)) $ rewrite ! 2 (λ (z : Val). ‵ (fat fullShare D′.mir l₄ 0 z)) (ap only (LL.tells D.the-type D′.the-laws d _ is₀)) refl $
-        assigns ! (agg ! (and-then ! (load ! (from ! (stop !)) (look ! 4 refl)) (and-then ! (lit ! tt) (and-then ! (load ! (from ! (stop !)) (look ! 2 refl)) (no-more !))))) (from ! (stop !)) (init ! 10 refl (LL.lawful (T.the-type α) (T′.the-laws α) 𝓤 H A W .typed (made d) _ (LL.owes (T.the-type α) (T′.the-laws α) (made d) (p, ((refl, lit< tt), (is, tt)))) .0)) $
+        land ! (from ! (stop !)) (init ! 2 refl (LL.lawful D.the-type D′.the-laws 𝓤 H A W .typed d _ is₀ .0)) $
+        rewrite ! 2 (λ (z : Val). ‵ (fat fullShare D′.mir l₄ 0 z)) (ap only (LL.tells D.the-type D′.the-laws d _ is₀)) refl $
+        assigns ! (agg ! (and-then ! (load ! (from ! (stop !)) (look ! 4 refl)) (and-then ! (lit ! tt) (and-then ! (load ! (from ! (stop !)) (look ! 2 refl)) (no-more !))))) (from ! (stop !))
+        (init ! 10 refl (LL.lawful (T.the-type α) (T′.the-laws α) 𝓤 H A W .typed (made d) _ (LL.owes (T.the-type α) (T′.the-laws α) (made d) (p, ((refl, lit< tt), (is, tt)))) .0)) $
         returns ! (look ! 10 refl) $ forget ! 2 refl $ forget ! 4 refl $ forget ! 6 refl $ forget ! 8 refl $ forget ! 10 refl $
-        move ! (10 ∷ 11 ∷ []) $ free1 ! $ move ! (8 ∷ 9 ∷ []) $ free1 ! $ move ! (6 ∷ 7 ∷ []) $ free1 ! $ move ! (4 ∷ 5 ∷ []) $ free1 ! $ move ! (2 ∷ 3 ∷ []) $ free1 ! $ free0 ! $ keep ! (2 ∷ []) $ by ! (exits d is e))))))))))
+        move ! (10 ∷ 11 ∷ []) $ free1 ! $ move ! (8 ∷ 9 ∷ []) $ free1 ! $ move ! (6 ∷ 7 ∷ []) $ free1 ! $ move ! (4 ∷ 5 ∷ []) $ free1 ! $ move ! (2 ∷ 3 ∷ []) $ free1 ! $ free0 ! $
+        keep ! (2 ∷ []) $ by ! (exits d is e))))))))))
 
 module _ {M : Type 1} (𝓤 : URA M) (H : Heap 𝓤) (A : Atoms 𝓤) (W : Given 𝓤 H A) (mem : Memory → SProp 𝓤) (run : Routine → Fun 𝓤) where
   new-walks : (C : Calls 𝓤 H) (Λ : Loops 𝓤 H) → FmC 𝓤 H (W .laws) C → Triple 𝓤 (C #fresh) (Fresh 𝓤 H A mem run) → Walks 𝓤 H A new.ended stayed (WpFn 𝓤 H C Λ code.function) (new.clauses 𝓤 H A mem run)
