@@ -44,7 +44,7 @@ use denote.Triple.Statement.{Contract, Triple}
 use denote.Triple.Call.{calls-at}
 use denote.Triple.Clauses.{ensured, lasts}
 use denote.Triple.Table.{entered, cited}
-use denote.Triple.Walked.{says, needs, Stays, stay-ref, stay-none, stay-none-slice, walkOf, goes-ref, goes-none, goes-none-slice, Walks, ends-at, walked, walk-meets}
+use denote.Triple.Walked.{says, needs, Stays, stay-ref, stay-none, stay-none-slice, walkOf, Goes, goes-ref, goes-none, goes-none-slice, Walks, ends-at, walked, walk-meets}
 use denote.Exit.{yes}
 use denote.Signature.{Slot, plain, namedLft}
 use Rattle.writer.specs.Page.{pageOf, setUpOn, Sound, Answers}
@@ -138,9 +138,7 @@ module _ {M : Type 1} (𝓤 : URA M) (H : Heap 𝓤) (A : Atoms 𝓤) (W : Given
 
   -- what `take_set_up`'s triple binds outside
   abbrev to-take : ℕ → GName → TakeSetUp 𝓤 H A at-mem run .Ghost
-  to-take ν δ =
-      (((ν ∷ [], (κ″, tt)), (fullShare, (q″, tt)), tt, (slice-at b′ o′ δ ys, (n, (d, (kind, (count, (p, tt)))))),
-      (s ∷ [], (vint w64 n ∷ [], (draft-val d ∷ [], (vint w8 kind ∷ [], (vint w8 count ∷ [], (v ∷ [], tt))))))), tt)
+  to-take ν δ = (((ν ∷ [], (κ″, tt)), (fullShare, (q″, tt)), tt, (slice-at b′ o′ δ ys, (n, (d, a .1))), (s ∷ [], (vint w64 n ∷ [], (draft-val d ∷ [], vals .1)))), tt)
 
   goes : n < 2 ^ 64 → Is D.the-row d (draft-val d ∷ []) → (ν : ℕ) (δ : GName) → Asked
       → ent 𝓤 (⋆ 𝓤 H A (tokens ν ∷ ‵ (Lent ν δ) ∷ ‵ Shr ∷ [])) (TakeSetUp 𝓤 H A at-mem run .pre (to-take ν δ))
@@ -204,11 +202,10 @@ module _ {M : Type 1} (𝓤 : URA M) (H : Heap 𝓤) (A : Atoms 𝓤) (W : Given
         (and-then ! (load ! (from ! (stop !)) (look ! 8 refl)) (and-then ! (load ! (from ! (stop !)) (look ! 24 refl))
         (and-then ! (load ! (from ! (stop !)) (look ! 22 refl)) (and-then ! (load ! (from ! (stop !)) (look ! 20 refl)) (no-more !))))))) (λ w.
         use1 W (later (some (λ (r : Taken). (tokens ν ⊛ ‵ (K.the-row .own r (w ∷ [])))
-        ⊛ raw (ensured 𝓤 H A take-set-up.ended (take-set-up.clauses 𝓤 H A at-mem run) (ν ∷ [], (κ″, tt)) (slice-at b′ o′ δ ys, (n, (d, (kind, (count, (p, tt)))))) tt r)))) (id⊢ 𝓤 _) $
-        await ! tt $ pick ! (λ r.
+        ⊛ raw (ensured 𝓤 H A take-set-up.ended (take-set-up.clauses 𝓤 H A at-mem run) (ν ∷ [], (κ″, tt)) (slice-at b′ o′ δ ys, (n, (d, a .1))) tt r)))) (id⊢ 𝓤 _) $ await ! tt $ pick ! (λ r.
         -- what `take_set_up` ensures, at some last list
         split ! $ move ! (1 ∷ []) $ use1 W (some (λ (zs : List ℕ × (Unit {0} × (Unit {0} × (Unit {0} × (Unit {0} × (Unit {0} × Unit {0})))))).
-        ‵ (lasts take-set-up.ended (ν ∷ [], (κ″, tt)) (slice-at b′ o′ δ ys, (n, (d, (kind, (count, (p, tt)))))) zs) ⊛ raw (fact 𝓤 (Ensured r (zs .0))))) (id⊢ 𝓤 _) $ pick ! (λ zs.
+        ‵ (lasts take-set-up.ended (ν ∷ [], (κ″, tt)) (slice-at b′ o′ δ ys, (n, (d, a .1))) zs) ⊛ raw (fact 𝓤 (Ensured r (zs .0))))) (id⊢ 𝓤 _) $ pick ! (λ zs.
         split ! $ move ! (1 ∷ []) $ heard ! (Ensured r (zs .0)) (λ e. fsplit ! $ fsplit ! $ move ! (1 ∷ []) $ feqL ! (λ l.
         move ! (2 ∷ []) $ split ! $ move ! (1 ∷ []) $ peeks ! K.the-row (Is K.the-row) (shows 𝓤 H A K.the-row) r (w ∷ []) (λ is.
         land ! (from ! (stop !)) (init ! 21 refl (LL.lawful K.the-type K′.the-laws 𝓤 H A W .typed r _ is .0)) $
@@ -244,11 +241,14 @@ module _ {M : Type 1} (𝓤 : URA M) (H : Heap 𝓤) (A : Atoms 𝓤) (W : Given
       (a .0 .now .buffer .ptr .0) (a .0 .now .buffer .ptr .1) (a .0 .now .buffer .name) (a .0 .now .buffer .now) (a .0 .now .filled) (a .0 .now .draft)
       (a .1 .0) (a .1 .1 .0) (are .1 .0 .1) (are .1 .1 .0 .1) (a .1 .1 .1 .0) C Λ fm known (are .1 .1 .1 .0)))
 
+-- nothing is had at exit of a byte that is passed
+byte-goes : {M : Type 1} (𝓤 : URA M) (H : Heap 𝓤) (A : Atoms 𝓤) (W : Given 𝓤 H A) → Goes 𝓤 H A W 3 (plain (λ _. u8)) yes (stay-none (λ _. u8) yes)
+byte-goes 𝓤 H A W = goes-none 𝓤 H A W 3 (λ _. u8) yes (λ κs x f. refl)
+
 set-up-meets : {M : Type 1} (𝓤 : URA M) (H : Heap 𝓤) (A : Atoms 𝓤) → Given 𝓤 H A → (mem : Memory → SProp 𝓤) (run : Routine → Fun 𝓤) (𝓣 : Tables 𝓤 H)
     → Triple 𝓤 (𝓣 .C #take-set-up) (TakeSetUp 𝓤 H A mem run) → Meets 𝓤 H A set-up.signature (WpFn 𝓤 H (𝓣 .C) (𝓣 .Λ) code.function) (set-up.spec 𝓤 H A mem run)
 set-up-meets 𝓤 H A W mem run 𝓣 known =
-    walk-meets 𝓤 H A set-up.ended stayed W (goes-ref 𝓤 H A W 3 0 tt WriterS, (goes-none 𝓤 H A W 3 (λ _. u8) yes (λ κs x f. refl), (goes-none 𝓤 H A W 3 (λ _. u8) yes (λ κs x f. refl),
-    (goes-none-slice 𝓤 H A W 3 (2 ∷ []) tt (plain (λ _. u8)) yes, tt)))) (set-up.clauses 𝓤 H A mem run)
+    walk-meets 𝓤 H A set-up.ended stayed W (goes-ref 𝓤 H A W 3 0 tt WriterS, (byte-goes 𝓤 H A W, (byte-goes 𝓤 H A W, (goes-none-slice 𝓤 H A W 3 (2 ∷ []) tt (plain (λ _. u8)) yes, tt)))) (set-up.clauses 𝓤 H A mem run)
     (WpFn 𝓤 H (𝓣 .C) (𝓣 .Λ) code.function) (WpFn-mono 𝓤 H (W .laws) 𝓣 code.function) (set-up-walks 𝓤 H A W mem run (𝓣 .C) (𝓣 .Λ) (fmOf 𝓤 H (W .laws) 𝓣) known)
 
 pub set-up-spec : {M : Type 1} → stated.statement M
