@@ -248,7 +248,8 @@ byte-goes 𝓤 H A W = goes-none 𝓤 H A W 3 (λ _. u8) yes (λ κs x f. refl)
 set-up-meets : {M : Type 1} (𝓤 : URA M) (H : Heap 𝓤) (A : Atoms 𝓤) → Given 𝓤 H A → (mem : Memory → SProp 𝓤) (run : Routine → Fun 𝓤) (𝓣 : Tables 𝓤 H)
     → Triple 𝓤 (𝓣 .C #take-set-up) (TakeSetUp 𝓤 H A mem run) → Meets 𝓤 H A set-up.signature (WpFn 𝓤 H (𝓣 .C) (𝓣 .Λ) code.function) (set-up.spec 𝓤 H A mem run)
 set-up-meets 𝓤 H A W mem run 𝓣 known =
-    walk-meets 𝓤 H A set-up.ended stayed W (goes-ref 𝓤 H A W 3 0 tt WriterS, (byte-goes 𝓤 H A W, (byte-goes 𝓤 H A W, (goes-none-slice 𝓤 H A W 3 (2 ∷ []) tt (plain (λ _. u8)) yes, tt)))) (set-up.clauses 𝓤 H A mem run)
+    walk-meets 𝓤 H A set-up.ended stayed W (goes-ref 𝓤 H A W 3 0 tt WriterS, (byte-goes 𝓤 H A W, (byte-goes 𝓤 H A W, (goes-none-slice 𝓤 H A W 3 (2 ∷ []) tt (plain (λ _. u8)) yes, tt))))
+    (set-up.clauses 𝓤 H A mem run)
     (WpFn 𝓤 H (𝓣 .C) (𝓣 .Λ) code.function) (WpFn-mono 𝓤 H (W .laws) 𝓣 code.function) (set-up-walks 𝓤 H A W mem run (𝓣 .C) (𝓣 .Λ) (fmOf 𝓤 H (W .laws) 𝓣) known)
 
 pub set-up-spec : {M : Type 1} → stated.statement M
