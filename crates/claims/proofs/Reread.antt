@@ -1,4 +1,4 @@
--- A written journal is its calls one by one. Takes that the blocks of a written journal pass their checks (claim 3).
+-- A written journal is its calls one by one. Assumes nothing.
 use mathlib.Core.Path.{_≡_, refl, sym, ap, subst, _∙_}
 use mathlib.Core.Bool.{Bool, true, false, true≢false, cond}
 use mathlib.Core.List.{List, [], _∷_, _++_, append-nil, append-assoc}
@@ -43,9 +43,11 @@ use Rattle.writer.specs.Page.{Page, freshPage, draftOf, withBlock, setUpOn}
 use Rattle.writer.specs.Tally as tally
 use Rattle.writer.specs.Tally.{isFree, kindChecks}
 use Rattle.claims.specs.Singles.{allTaken}
-use Rattle.claims.specs.Written.{joined, Sheet, ofPosts, sheets, framedFrom, blocksOf, ended, BlocksPass}
+use Rattle.claims.specs.Written.{joined, Sheet, ofPosts, sheets, framedFrom, blocksOf, ended}
 use Rattle.claims.specs.Written as written
 use Rattle.claims.specs.Reread.{singly, JournalIsItsCalls, FilingIsOfCalls}
+use Rattle.claims.proofs.written.Claims.{blocks-pass}
+use Rattle.claims.proofs.written.Places.{joined-last}
 use Rattle.claims.proofs.Filled.{run-admits, taken-long, one-more, block-of-posts}
 
 -- ---- the set-ups that a writer takes
@@ -214,12 +216,6 @@ reads-end u y z waiting m k place b cs j rest h = go (eqb (length waiting) 0) re
         reads-waiting u y z waiting m place (sheets [] cs) b (j .long) some (omega arith) (j .run)
         (rest (suc m) (suc place) (joint-none u z (suc m) k (λ t. absurd (true≢false (sym turn ∙ t))))) f
 
--- one post more waits
-joined-more : (l : List (List ℕ)) (s : List ℕ) → joined (l ++ (s ∷ [])) ≡ joined l ++ s
-unfolding joined
-joined-more [] s = append-nil s
-joined-more (x ∷ l) s = ap (λ (m : List ℕ). x ++ m) (joined-more l s) ∙ sym (append-assoc x (joined l) s)
-
 -- a post: it waits, or is the tenth and is written with those that wait
 reads-post : (u : Setup) (y z x : Year) (waiting : List (List ℕ)) (m k place : ℕ) (b : Book) (s : List ℕ) (cs : List calls.Call) → Joint u y z waiting m k → postOn u z s ≡ taken x
     → ((w : Year) (l : List (List ℕ)) (n p : ℕ) → Joint u w x l n k → Frames n (framedFrom n (sheets l cs)) → Reads u w n p (framedFrom n (sheets l cs)) b)
@@ -234,11 +230,11 @@ reads-post u y z x waiting m k place b s cs j e rest h = go (eqb (length waiting
     count = omega (arith, length-append waiting (s ∷ []))
 
     long : length (joined more) ≡ length more * 48
-    long = omega (arith, ap (λ (l : List ℕ). length l) (joined-more waiting s), length-append (joined waiting) s, count, j .long, taken-long u z x s e)
+    long = omega (arith, ap (λ (l : List ℕ). length l) (joined-last waiting s), length-append (joined waiting) s, count, j .long, taken-long u z x s e)
 
     run : takenTo u y (postIn (joined more)) (length more) ≡ taken x
     run =
-        ap (λ (l : List ℕ). takenTo u y (postIn l) (length more)) (joined-more waiting s)
+        ap (λ (l : List ℕ). takenTo u y (postIn l) (length more)) (joined-last waiting s)
         ∙ ap (takenTo u y (postIn (joined waiting ++ s))) count
         ∙ one-more u y z x (joined waiting) s (length waiting) (j .long) (j .run) e
 
@@ -325,18 +321,17 @@ unfolding linesTo
 same-lines b blocks zero = refl
 same-lines b blocks (suc n) = ap (λ (l : List ℕ). l ++ lineText (reportAt b n)) (same-lines b blocks n)
 
-module _ (blocks-pass : BlocksPass) where
-  -- 4: a fresh book takes the written journal, and is the book that took the calls singly, but for its block number
-  pub journal-is-its-calls : JournalIsItsCalls
-  unfolding blocksOf
-  journal-is-its-calls lent list b e =
-      let cs = accepted (freshPage lent) list in
-      let f = frames 0 freshOutline (blocksOf (ended lent list)) (blocks-pass lent list) in
-      let zero-more : 0 + length (blocksOf (ended lent list)) ≡ length (blocksOf (ended lent list)) = omega arith in
-      ap (readAll freshBook 0) (parts-joined 0 (blocksOf (ended lent list)) f)
-      ∙ reads-all cs (kinds-accepted (freshPage lent) list) freshSetup freshYear freshYear [] 0 0 0 b (joint-none freshSetup freshYear 0 0 (λ t. refl)) f e
-      ∙ ap (λ (n : ℕ). read (bookWith (b .setup) (b .year) n)) zero-more
+-- 4: a fresh book takes the written journal, and is the book that took the calls singly, but for its block number
+pub journal-is-its-calls : JournalIsItsCalls
+unfolding blocksOf
+journal-is-its-calls lent list b e =
+    let cs = accepted (freshPage lent) list in
+    let f = frames 0 freshOutline (blocksOf (ended lent list)) (blocks-pass lent list) in
+    let zero-more : 0 + length (blocksOf (ended lent list)) ≡ length (blocksOf (ended lent list)) = omega arith in
+    ap (readAll freshBook 0) (parts-joined 0 (blocksOf (ended lent list)) f)
+    ∙ reads-all cs (kinds-accepted (freshPage lent) list) freshSetup freshYear freshYear [] 0 0 0 b (joint-none freshSetup freshYear 0 0 (λ t. refl)) f e
+    ∙ ap (λ (n : ℕ). read (bookWith (b .setup) (b .year) n)) zero-more
 
-  -- 5: what is printed of the journal is what the reports of that book say
-  pub filing-is-of-calls : FilingIsOfCalls
-  filing-is-of-calls lent list b e = ap outcomeText (journal-is-its-calls lent list b e) ∙ ap (λ (l : List ℕ). title ++ l) (same-lines b _ (b .setup .outline .substances))
+-- 5: what is printed of the journal is what the reports of that book say
+pub filing-is-of-calls : FilingIsOfCalls
+filing-is-of-calls lent list b e = ap outcomeText (journal-is-its-calls lent list b e) ∙ ap (λ (l : List ℕ). title ++ l) (same-lines b _ (b .setup .outline .substances))

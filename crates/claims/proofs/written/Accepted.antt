@@ -1,21 +1,18 @@
 -- What a writer's accepted calls tell. Assumes nothing.
 use mathlib.Core.Path.{_≡_, refl, sym, ap, _∙_}
-use mathlib.Core.Bool.{Bool, true, false, true≢false, not, _&&_, cond}
-use mathlib.Core.List.{List, [], _∷_, _++_}
-use Prim.Native.Nat.{ℕ, _+_, _*_, _≤_, _<_}
+use mathlib.Core.Bool.{Bool, true, false, true≢false, cond}
+use mathlib.Core.List.{List, [], _∷_}
+use Prim.Native.Nat.{ℕ, _≤_}
 use native.Mathlib.Omega.{arith}
-use borrow.Author.Tests.{eqb-true, leb-true, ltb-true, eq-eqb, ne-eqb}
-use lib.Dec.{eqb, leb, ltb}
+use borrow.Author.Tests.{eqb-true, eq-eqb}
+use lib.Dec.{eqb}
 use lib.ListN.{length}
 use Rattle.amounts.specs.Decline.{Answer, taken, declined, Check, check, checked, onTaken, isTaken, outOfTurn, layout, range, noRoom}
 use Rattle.amounts.proofs.decline.Laws.{was-taken}
 use Rattle.layout.specs.Frame.{blockOf}
-use Rattle.layout.specs.Outline.{maySetUp, mayDescribe, mayPost}
-use Rattle.layout.specs.Setup.{setupChecks}
-use Rattle.layout.specs.Stage.{stageChecks}
+use Rattle.layout.specs.Outline.{mayPost}
 use Rattle.layout.specs.declared.outline.Outline.{Outline}
-use Rattle.layout.proofs.Checked.{AllPass, passed}
-use Rattle.layout.proofs.Each.{and-true}
+use Rattle.layout.proofs.Checked.{AllPass, passed, pass-both}
 use Rattle.layout.proofs.setup.Laws.{within-true}
 use Rattle.post.specs.Fields.{postAt}
 use Rattle.post.specs.Kind.{fieldsFit, kindOf}
@@ -23,60 +20,15 @@ use Rattle.post.specs.Moves.{laidOut, floatsFit, wellFormed}
 use Rattle.writer.specs.Page.{Page, draftOf, withBlock, posted, postOn, setUpOn}
 use Rattle.writer.specs.Tally as tally
 use Rattle.writer.specs.Tally.{isFree, kindChecks, setUpChecks, mayBegin, postAnswer}
+use Rattle.writer.proofs.tally.Laws.{Free, is-free, early}
 use Rattle.writer.specs.declared.tally.Tally.{Tally}
-
--- ---- tables of checks
-
--- a table after another passes as both do
-pub pass-both : (xs ys : List Check) → AllPass (xs ++ ys) → AllPass xs × AllPass ys
-pass-both [] ys h = (tt, h)
-pass-both (check t n ∷ xs) ys h = let r = pass-both xs ys (h .1) in ((h .0, r .0), r .1)
-
--- a table that passes takes
-pub pass-taken : {A : Type 0} (rows : List Check) (a : A) → AllPass rows → checked rows a ≡ taken a
-unfolding checked
-pass-taken [] a h = refl
-pass-taken (check t n ∷ rows) a h = rw (h .0) (pass-taken rows a (h .1))
 
 -- an answer that is taken has a value
 pub has-value : {A : Type 0} (x : Answer A) → isTaken x ≡ true → (a : A) × (x ≡ taken a)
 has-value (taken a) e = (a, refl)
 has-value (declined n) e = absurd (true≢false (sym e))
 
--- ---- 13
-
--- there is room for one more block
-pub record Free (room : ℕ) (t : Tally) : Type 0 where
-  pub number : t .blocks < 65536
-  pub fits : t .blocks * 512 + 512 ≤ room
-
-pub is-free : (room : ℕ) (t : Tally) → isFree room t ≡ true → Free room t
-is-free room t e =
-    let h = and-true (ltb (t .blocks) 65536) (leb (t .blocks * 512 + 512) room) e in
-    record { number = ltb-true (t .blocks) 65536 (h .0); fits = leb-true (t .blocks * 512 + 512) room (h .1) }
-
 -- ---- a set-up block
-
--- a book to be set up, or with a stage left to describe, takes no post
-not-set-up : (o : Outline) → maySetUp o ≡ true → mayPost o ≡ false
-not-set-up o e = rw e
-
-not-described : (o : Outline) (stage : ℕ) → mayDescribe o stage ≡ true → mayPost o ≡ false
-not-described o stage e =
-    let l = ltb-true (o .described) (o .stages) (and-true (ltb (o .described) (o .stages)) (eqb stage (o .described)) e .0) in
-    rw (ne-eqb (o .described) (o .stages) (λ q. omega arith)) (none (not (eqb (o .substances) 0)))
-  where
-    none : (t : Bool) → (t && false) ≡ false
-    none true = refl
-    none false = refl
-
--- 4 and 6 of either kind tell that no post may be taken yet, and the body's length
-early : (o : Outline) (kind count : ℕ) (body : List ℕ) → AllPass (kindChecks o kind count body) → (mayPost o ≡ false) × (length body ≡ 500)
-early o kind count body h = go (eqb kind 1) h
-  where
-    go : (t : Bool) → AllPass (cond t (setupChecks o count body) (stageChecks o count body)) → (mayPost o ≡ false) × (length body ≡ 500)
-    go true h = (not-set-up o (h .0), eqb-true (length body) 500 (h .1 .0))
-    go false h = (not-described o count (h .0), eqb-true (length body) 500 (h .1 .0))
 
 pub record SetUpTaken (room : ℕ) (t : Tally) (kind count : ℕ) (body : List ℕ) : Type 0 where
   pub low : 1 ≤ kind

@@ -21,7 +21,7 @@ use Rattle.layout.proofs.frame.Made.{kind-made, count-made, body-made, made-pas
 use Rattle.post.specs.Moves.{wellFormed}
 use Rattle.writer.specs.Tally.{kindChecks, outlineAfter}
 use Rattle.claims.specs.Written.{joined, postsIn, postsInAll, bodyRows, outlinePast, Passes, AllPass}
-use Rattle.claims.proofs.written.Accepted.{pass-taken, formed-long}
+use Rattle.claims.proofs.written.Accepted.{formed-long}
 use Rattle.claims.proofs.written.Places.{zeros, zeros-long, zeros-zero, EachLong, joined-long, part-is, parts-are}
 
 -- ---- one block more

@@ -1,6 +1,6 @@
 -- Bytes put at a place, and the block that its frame makes of a body. Assumes nothing.
 use mathlib.Core.Path.{_≡_, refl, sym, ap, ap₂, _∙_}
-use mathlib.Core.List.{List, [], _∷_, _++_}
+use mathlib.Core.List.{List, [], _∷_, _++_, append-assoc, append-nil}
 use Prim.Native.Nat.{ℕ, _+_, _-_, _/_, _%_, _≤_, _<_}
 use native.Mathlib.Numerals.{add-one}
 use native.Mathlib.Omega.{arith}
@@ -10,7 +10,7 @@ use lib.ListN.{length, take, drop, getD, set, length-append, length-drop, drop-o
 use lib.Seq.{length-take-le, take-length, take-append-add, paste, paste-suc}
 use Rattle.layout.specs.Bytes.{bytesOf}
 use Rattle.layout.specs.Frame.{bodyOf, plainSum, weightedSum, sumsOf, headOf, summed, blockOf}
-use Rattle.layout.proofs.frame.Made.{nothing-behind, plain-small, weighted-small}
+use Rattle.layout.proofs.frame.Made.{plain-small, weighted-small}
 use Rattle.writer.specs.Frame.{placed}
 
 -- where the bytes fit, and where they don't
@@ -21,10 +21,6 @@ placed-in l at s h = rw (le-leb (at + length s) (length l) h)
 pub placed-out : (l : List ℕ) (at : ℕ) (s : List ℕ) → length l < at + length s → placed l at s ≡ l
 unfolding placed
 placed-out l at s h = rw (lt-leb (at + length s) (length l) h)
-
-append-assoc : (a b c : List ℕ) → (a ++ b) ++ c ≡ a ++ (b ++ c)
-append-assoc [] b c = refl
-append-assoc (x ∷ a) b c = ap (λ (l : List ℕ). x ∷ l) (append-assoc a b c)
 
 pub placed-long : (l : List ℕ) (at : ℕ) (s : List ℕ) → at + length s ≤ length l → length (placed l at s) ≡ length l
 placed-long l at s h =
@@ -60,7 +56,7 @@ module _ (block : List ℕ) (long : length block ≡ 512) (head : List ℕ) (eig
         let same = placed-long block 0 head (omega (arith, long, eight)) in
         placed-in m 508 tail (omega (arith, same, long, four))
         ∙ ap₂ (λ (x y : List ℕ). x ++ (tail ++ y)) first-part (drop-of-length-le m {i = 508 + length tail} (omega (arith, same, long, four)))
-        ∙ ap (λ (x : List ℕ). (head ++ bodyOf block) ++ x) (nothing-behind tail)
+        ∙ ap (λ (x : List ℕ). (head ++ bodyOf block) ++ x) (append-nil tail)
 
 sums-are : (p q w z a b : ℕ) → p ≡ a % 256 → q ≡ a / 256 → w ≡ b % 256 → z ≡ b / 256 → a < 65536 → b < 65536 → p ∷ q ∷ w ∷ z ∷ [] ≡ bytesOf 2 a ++ bytesOf 2 b
 unfolding bytesOf

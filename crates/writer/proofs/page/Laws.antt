@@ -10,18 +10,15 @@ use lib.ListN.{length, take, drop, replicate, length-replicate}
 use lib.Seq.{take-at, drop-at, length-take-le}
 use Rattle.amounts.specs.Decline.{Answer, taken, declined, Check, check, checked, onTaken, valueOr}
 use Rattle.amounts.specs.declared.decline.Decline.{Decline}
-use Rattle.layout.proofs.Checked.{AllPass, passed}
+use Rattle.layout.proofs.Checked.{AllPass, passed, pass-both, pass-taken}
 use Rattle.layout.proofs.verdict.Laws.{declines, accepts}
 use Rattle.layout.specs.Frame.{bodyOf, blockOf}
-use Rattle.layout.specs.Setup.{setupChecks}
-use Rattle.layout.specs.Stage.{stageChecks}
 use Rattle.layout.specs.Verdict.{verdictOf}
-use Rattle.layout.specs.declared.outline.Outline.{Outline}
 use Rattle.layout.specs.declared.verdict.Verdict.{Verdict}
 use Rattle.layout.specs.declared.verdict.Verdict.the-variants.{Accepted, Declined}
 use Rattle.post.specs.Kind.{Row}
 use Rattle.writer.proofs.frame.Laws.{placed-in}
-use Rattle.writer.proofs.tally.Laws.{both-pass, all-taken, posted-turns, posted-joins, set-up-free, post-begun, end-begun}
+use Rattle.writer.proofs.tally.Laws.{early, posted-turns, posted-joins, set-up-free, post-begun, end-begun}
 use Rattle.writer.specs.Frame.{placed}
 use Rattle.writer.specs.Page.{Page, pageOf, draftOf, freshDraft, withBlock, withPost, postsBlock, turned, posted, postOn, setUpOn, ended, Sound, Answers}
 use Rattle.writer.specs.Tally as tally
@@ -46,13 +43,6 @@ block-sound p bytes t rest sound size h e =
     record { counted = subst (λ (n : ℕ). tally.Sound n t) (sym size) h; filled-is = omega (arith, sound .filled-is, e) }
 
 -- ---- a set-up block
-
-second-row : (o : Outline) (kind count : ℕ) (body : List ℕ) → AllPass (kindChecks o kind count body) → length body ≡ 500
-second-row o kind count body = go (eqb kind 1)
-  where
-    go : (t : Bool) → AllPass (cond t (setupChecks o count body) (stageChecks o count body)) → length body ≡ 500
-    go true h = eqb-true (length body) 500 (h .1 .0)
-    go false h = eqb-true (length body) 500 (h .1 .0)
 
 -- a body put into a block of zeros is its body
 pub body-in : (body : List ℕ) → length body ≡ 500 → bodyOf (placed (replicate 512 0) 8 body) ≡ body
@@ -80,16 +70,16 @@ module _ (p : Page) (sound : Sound p) (kind count : ℕ) (body : List ℕ) where
     set-up-passes = passed rows (tt {0}) (tt {0}) (accepts (tally.setUp t kind count body) (tt {0}) rows (c .verdict)) .0
 
     set-up-long : length body ≡ 500
-    set-up-long = second-row (t .outline) kind count body (both-pass (kindChecks (t .outline) kind count body) _ (set-up-passes .1) .0)
+    set-up-long = early (t .outline) kind count body (pass-both (kindChecks (t .outline) kind count body) _ (set-up-passes .1) .0) .1
 
     pub set-up-room : (t .blocks < 65536) × (p .filled + 512 ≤ length (p .bytes))
     set-up-room =
         let free = set-up-free (length (p .bytes)) t (sound .counted) kind count body set-up-passes in
-        (free .number, omega (arith, free .room-left, sound .filled-is))
+        (free .number, omega (arith, free .fits, sound .filled-is))
 
     set-up-is : q ≡ tally.setUp t kind count body
     unfolding tally.setUpOn
-    set-up-is = c .after ∙ ap (valueOr t) (all-taken rows (tally.setUp t kind count body) set-up-passes)
+    set-up-is = c .after ∙ ap (valueOr t) (pass-taken rows (tally.setUp t kind count body) set-up-passes)
 
     pub set-up-answers : (whole bytes : List ℕ) (end : ℕ) → whole ≡ placed (replicate 512 0) 8 body → end ≡ p .filled + 512
         → bytes ≡ placed (p .bytes) (p .filled) (blockOf kind count (t .blocks) (bodyOf whole)) → length bytes ≡ length (p .bytes)
@@ -102,7 +92,7 @@ module _ (p : Page) (sound : Sound p) (kind count : ℕ) (body : List ℕ) where
         let blocks : q .blocks ≡ t .blocks + 1 = ap (λ (x : Tally). x .blocks) set-up-is in
         subst (λ (n : ℕ). Answers p (setUpOn p kind count body) Accepted (pageOf bytes n (draftOf q (p .draft .block)))) (sym e)
         (answered p (setUpOn p kind count body) (pageOf bytes (p .filled + 512) (draftOf q (p .draft .block)))
-        (all-taken rows _ set-up-passes ∙ ap₂ (λ (x : List ℕ) (y : Tally). taken (pageOf x (p .filled + 512) (draftOf y (p .draft .block)))) (sym is) (sym set-up-is))
+        (pass-taken rows _ set-up-passes ∙ ap₂ (λ (x : List ℕ) (y : Tally). taken (pageOf x (p .filled + 512) (draftOf y (p .draft .block)))) (sym is) (sym set-up-is))
         size (block-sound p bytes q (p .draft .block) sound size (c .sound) blocks))
 
 -- ---- posts and ends

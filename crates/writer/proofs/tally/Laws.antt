@@ -6,9 +6,10 @@ use Prim.Native.Nat.{ℕ, _+_, _*_, _/_, _≤_, _<_}
 use native.Mathlib.Omega.{arith}
 use borrow.Author.Tests.{ltb-true, ltb-false, leb-true, eqb-true, eqb-false, le-leb, lt-leb, lt-ltb, le-ltb, eq-eqb, ne-eqb}
 use lib.Dec.{eqb, leb, ltb}
+use lib.ListN.{length}
 use Rattle.amounts.specs.Decline.{Answer, taken, declined, Check, check, checked, onTaken, valueOr, noRoom}
 use Rattle.amounts.specs.declared.decline.Decline.{Decline}
-use Rattle.layout.proofs.Checked.{AllPass, passed, checked-append}
+use Rattle.layout.proofs.Checked.{AllPass, passed, pass-both, pass-taken}
 use Rattle.layout.proofs.Each.{and-true}
 use Rattle.layout.proofs.verdict.Laws.{accepts, declines}
 use Rattle.layout.specs.Outline.{mayPost, maySetUp, mayDescribe}
@@ -73,13 +74,6 @@ module _ (room : ℕ) (t : Tally) (s : List ℕ) where
 
 -- ---- what a call answers, as a record
 
--- a table whose checks all pass takes
-pub all-taken : {A : Type 0} (rows : List Check) (a : A) → AllPass rows → checked rows a ≡ taken a
-unfolding checked
-all-taken [] a h = refl
-all-taken (check true n ∷ rows) a h = all-taken rows a (h .1)
-all-taken (check false n ∷ rows) a h = absurd (true≢false (sym (h .0)))
-
 pub refused : (room : ℕ) (t : Tally) (a : Answer Tally) (d : Decline) → Sound room t → a ≡ declined (d .number) → Counts room t a (Declined d) t
 refused room t a d sound e = record { verdict = sym (ap verdictOf e); after = sym (ap (valueOr t) e); sound = sound }
 
@@ -140,23 +134,26 @@ module _ (t : Tally) where
 
 -- ---- what an accepted set-up block tells
 
-pub both-pass : (xs ys : List Check) → AllPass (xs ++ ys) → AllPass xs × AllPass ys
-both-pass [] ys h = (tt, h)
-both-pass (check t n ∷ xs) ys h = let z = both-pass xs ys (h .1) in ((h .0, z .0), z .1)
+-- a site to be set up, or with a stage left to describe, takes no post
+not-set-up : (o : Outline) → maySetUp o ≡ true → mayPost o ≡ false
+not-set-up o e = rw e
 
-and-no : (x y : Bool) → y ≡ false → (x && y) ≡ false
-and-no true y e = e
-and-no false y e = refl
-
--- a set-up block in its turn comes before any post may
-pub before-posts : (o : Outline) (kind count : ℕ) (body : List ℕ) → AllPass (kindChecks o kind count body) → mayPost o ≡ false
-before-posts o kind count body = go (eqb kind 1)
+not-described : (o : Outline) (stage : ℕ) → mayDescribe o stage ≡ true → mayPost o ≡ false
+not-described o stage e =
+    let l = ltb-true (o .described) (o .stages) (and-true (ltb (o .described) (o .stages)) (eqb stage (o .described)) e .0) in
+    rw (ne-eqb (o .described) (o .stages) (λ q. omega arith)) (none (not (eqb (o .substances) 0)))
   where
-    go : (t : Bool) → AllPass (cond t (setupChecks o count body) (stageChecks o count body)) → mayPost o ≡ false
-    go true h = rw (h .0)
-    go false h =
-        let z = and-true (ltb (o .described) (o .stages)) (eqb count (o .described)) (h .0) in
-        and-no (not (eqb (o .substances) 0)) (eqb (o .described) (o .stages)) (ne-eqb (o .described) (o .stages) (λ e. absurd (omega (arith, ltb-true (o .described) (o .stages) (z .0), e))))
+    none : (t : Bool) → (t && false) ≡ false
+    none true = refl
+    none false = refl
+
+-- 4 and 6 of either kind tell that no post may be taken yet, and the body's length
+pub early : (o : Outline) (kind count : ℕ) (body : List ℕ) → AllPass (kindChecks o kind count body) → (mayPost o ≡ false) × (length body ≡ 500)
+early o kind count body h = go (eqb kind 1) h
+  where
+    go : (t : Bool) → AllPass (cond t (setupChecks o count body) (stageChecks o count body)) → (mayPost o ≡ false) × (length body ≡ 500)
+    go true h = (not-set-up o (h .0), eqb-true (length body) 500 (h .1 .0))
+    go false h = (not-described o count (h .0), eqb-true (length body) 500 (h .1 .0))
 
 -- a block that is no kind 1 describes the next stage
 pub next-stage : (o : Outline) (kind count : ℕ) (body : List ℕ) → AllPass (kindChecks o kind count body) → (kind ≡ 1 → ⊥) → mayDescribe o count ≡ true
@@ -166,14 +163,15 @@ pub stage-is : (o : Outline) (count : ℕ) → mayDescribe o count ≡ true → 
 stage-is o count e =
     let z = and-true (ltb (o .described) (o .stages)) (eqb count (o .described)) e in (ltb-true (o .described) (o .stages) (z .0), eqb-true count (o .described) (z .1))
 
+-- 13: there is room for one more block
 pub record Free (room : ℕ) (t : Tally) : Type 0 where
   pub number : t .blocks < 65536
-  pub room-left : t .blocks * 512 + 512 ≤ room
+  pub fits : t .blocks * 512 + 512 ≤ room
 
-is-free : (room : ℕ) (t : Tally) → isFree room t ≡ true → Free room t
+pub is-free : (room : ℕ) (t : Tally) → isFree room t ≡ true → Free room t
 is-free room t e =
     let z = and-true (ltb (t .blocks) 65536) (leb (t .blocks * 512 + 512) room) e in
-    record { number = ltb-true (t .blocks) 65536 (z .0); room-left = leb-true (t .blocks * 512 + 512) room (z .1) }
+    record { number = ltb-true (t .blocks) 65536 (z .0); fits = leb-true (t .blocks * 512 + 512) room (z .1) }
 
 module _ (room : ℕ) (t : Tally) (sound : Sound room t) where
   -- while no post may come, none waits
@@ -186,13 +184,13 @@ module _ (room : ℕ) (t : Tally) (sound : Sound room t) where
 
   module _ (kind count : ℕ) (body : List ℕ) (pass : AllPass (setUpChecks room t kind count body)) where
     set-up-parts : AllPass (kindChecks (t .outline) kind count body) × AllPass (check (isFree room t) noRoom ∷ [])
-    set-up-parts = both-pass (kindChecks (t .outline) kind count body) (check (isFree room t) noRoom ∷ []) (pass .1)
+    set-up-parts = pass-both (kindChecks (t .outline) kind count body) (check (isFree room t) noRoom ∷ []) (pass .1)
 
     pub set-up-free : Free room t
     set-up-free = is-free room t (set-up-parts .1 .0)
 
     pub set-up-none-waits : t .waiting ≡ 0
-    set-up-none-waits = none-waits (before-posts (t .outline) kind count body (set-up-parts .0))
+    set-up-none-waits = none-waits (early (t .outline) kind count body (set-up-parts .0) .0)
 
     pub set-up-stage : (kind ≡ 1 → ⊥) → mayDescribe (t .outline) count ≡ true
     set-up-stage = next-stage (t .outline) kind count body (set-up-parts .0)
@@ -205,7 +203,7 @@ module _ (room : ℕ) (t : Tally) (sound : Sound room t) where
         record {
           few = sound .few;
           blocks-few = omega (arith, free .number);
-          within = omega (arith, free .room-left);
+          within = omega (arith, free .fits);
           begun = λ h. absurd (omega (arith, none, h));
         }
 
@@ -213,7 +211,7 @@ module _ (room : ℕ) (t : Tally) (sound : Sound room t) where
         (record { outline = o; waiting = t .waiting; blocks = t .blocks + 1 })
     unfolding setUpOn setUp
     set-up-counts o e =
-        let is : setUpOn room t kind count body ≡ taken (setUp t kind count body) = all-taken (setUpChecks room t kind count body) (setUp t kind count body) pass in
+        let is : setUpOn room t kind count body ≡ taken (setUp t kind count body) = pass-taken (setUpChecks room t kind count body) (setUp t kind count body) pass in
         let same = ap {B = Tally} (λ (x : Outline). record { outline = x; waiting = t .waiting; blocks = t .blocks + 1 }) e in
         counted room t (setUpOn room t kind count body) (setUp t kind count body) _ same (subst (Sound room) (sym same) set-up-sound) is
 
@@ -225,7 +223,7 @@ module _ (room : ℕ) (t : Tally) (sound : Sound room t) where
       where
         go : (b : Bool) → eqb (t .waiting) 0 ≡ b → Begun room t
         go true e = let free = is-free room t (sym (ap (λ (b : Bool). cond b (isFree room t) true) e) ∙ begins) in
-            record { number = free .number; room-left = free .room-left; in-turn = in-turn }
+            record { number = free .number; room-left = free .fits; in-turn = in-turn }
         go false e = sound .begun (omega (arith, eqb-false (t .waiting) 0 e))
 
   turned-sound : Begun room t → Sound room (turned t)
