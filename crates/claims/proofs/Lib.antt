@@ -8,3 +8,7 @@ pub mod Demand
 pub mod Weighing
 pub mod Singles
 pub mod Figures
+pub mod written
+pub mod Filled
+pub mod Reread
+pub mod Worked

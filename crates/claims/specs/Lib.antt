@@ -4,3 +4,4 @@ pub mod Weighing
 pub mod Singles
 pub mod Figures
 pub mod Written
+pub mod Reread

@@ -24,6 +24,17 @@ passed [] a b e = (tt, cc)
 passed (check true n ∷ rows) a b e = let z = passed rows a b e in ((refl, z .0), z .1)
 passed (check false n ∷ rows) a b e = let z : _≡_ {A = ℕ} 0 1 = cc in absurd (omega arith)
 
+-- a table after another passes as both do
+pub pass-both : (xs ys : List Check) → AllPass (xs ++ ys) → AllPass xs × AllPass ys
+pass-both [] ys h = (tt, h)
+pass-both (check t n ∷ xs) ys h = let r = pass-both xs ys (h .1) in ((h .0, r .0), r .1)
+
+-- a table that passes takes
+pub pass-taken : {A : Type 0} (rows : List Check) (a : A) → AllPass rows → checked rows a ≡ taken a
+unfolding checked
+pass-taken [] a h = refl
+pass-taken (check t n ∷ rows) a h = rw (h .0) (pass-taken rows a (h .1))
+
 -- a table that declines does so whatever it was given
 pub same-decline : {A B : Type 0} (rows : List Check) (a : A) (b : B) (n : ℕ) → checked rows a ≡ declined n → checked rows b ≡ declined n
 unfolding checked

@@ -2,6 +2,8 @@
 ghost use mathlib.Core.Path.{_≡_};
 ghost use Prim.Native.Nat.{_<_};
 ghost use Rattle.amounts.specs.Decline.{taken, checked};
+ghost use mathlib.Core.Bool.{true};
+ghost use Rattle.layout.specs.Outline.{mayDescribe};
 ghost use Rattle.layout.specs.Verdict.{verdictOf};
 ghost use Rattle.layout.specs.declared.verdict.Verdict.the-variants.{Accepted};
 ghost use Rattle.writer.specs.Tally.{freshTally, isFree, kindChecks, setUpChecks, mayBegin, postAnswer, turned, ended, outlineAfter, setUpOn, postOn, Sound, Counts};
@@ -115,7 +117,7 @@ fn turn(t: Tally) -> Counted
 }
 
 fn outline_after(o: Outline, kind: u8, count: u8, body: &[u8]) -> Outline
-    requires { ⌜ count < 255 ⌝ }
+    requires { ⌜ ((kind ≡ 1 → ⊥) → mayDescribe o count ≡ true) ⌝ }
     ensures { λ r. ⌜ r ≡ outlineAfter o kind count (now (body .entry)) ⌝ }
 {
     if kind == 1 {
@@ -125,7 +127,7 @@ fn outline_after(o: Outline, kind: u8, count: u8, body: &[u8]) -> Outline
         substances: o.substances,
         materials: o.materials,
         stages: o.stages,
-        described: count + 1,
+        described: o.described + 1,
     }
 }
 

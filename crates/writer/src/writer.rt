@@ -28,7 +28,8 @@ impl<'a> Writer<'a> {
     // A set-up block of any kind, count and body.
     pub fn set_up(&mut self, kind: u8, count: u8, body: &[u8]) -> Verdict
         requires { ⌜ Sound (page (now self)) ⌝ }
-        ensures { λ r. ⌜ Kept (now (self .entry)) (now (self .exit)) × Answers (page (now (self .entry))) (setUpOn (page (now (self .entry))) kind count (now (body .entry))) r (page (now (self .exit))) ⌝ }
+        ensures { λ r. ⌜ Kept (now (self .entry)) (now (self .exit))
+            × Answers (page (now (self .entry))) (setUpOn (page (now (self .entry))) kind count (now (body .entry))) r (page (now (self .exit))) ⌝ }
     {
         let taken = page::take_set_up(
             &mut *self.buffer,
@@ -46,7 +47,8 @@ impl<'a> Writer<'a> {
     // A post of any bytes.
     pub fn post(&mut self, post: &[u8]) -> Verdict
         requires { ⌜ Sound (page (now self)) ⌝ }
-        ensures { λ r. ⌜ Kept (now (self .entry)) (now (self .exit)) × Answers (page (now (self .entry))) (postOn (page (now (self .entry))) (now (post .entry))) r (page (now (self .exit))) ⌝ }
+        ensures { λ r. ⌜ Kept (now (self .entry)) (now (self .exit))
+            × Answers (page (now (self .entry))) (postOn (page (now (self .entry))) (now (post .entry))) r (page (now (self .exit))) ⌝ }
     {
         let taken = page::take_post(&mut *self.buffer, self.filled, self.draft, post);
         self.filled = taken.filled;
@@ -57,7 +59,8 @@ impl<'a> Writer<'a> {
     // The posts that wait are written. How many bytes are filled.
     pub fn end(&mut self) -> usize
         requires { ⌜ Sound (page (now self)) ⌝ }
-        ensures { λ r. ⌜ Kept (now (self .entry)) (now (self .exit)) × (r ≡ now (self .exit) .filled) × Answers (page (now (self .entry))) (taken (ended (page (now (self .entry))))) Accepted (page (now (self .exit))) ⌝ }
+        ensures { λ r. ⌜ Kept (now (self .entry)) (now (self .exit)) × (r ≡ now (self .exit) .filled)
+            × Answers (page (now (self .entry))) (taken (ended (page (now (self .entry))))) Accepted (page (now (self .exit))) ⌝ }
     {
         let ended = page::end_posts(&mut *self.buffer, self.filled, self.draft);
         self.filled = ended.filled;

@@ -1,7 +1,7 @@
 -- A block that is made passes the checks of its frame, and tells what it was made of. Assumes nothing.
 use mathlib.Core.Path.{_≡_, refl, sym, ap, _∙_}
 use mathlib.Core.Bool.{true}
-use mathlib.Core.List.{List, [], _∷_, _++_}
+use mathlib.Core.List.{List, [], _∷_, _++_, append-nil}
 use Prim.Native.Nat.{ℕ, _+_, _*_, _/_, _%_, _≤_, _<_}
 use native.Mathlib.Omega.{arith}
 use borrow.Author.Tests.{eq-eqb}
@@ -17,15 +17,11 @@ pub two-told : (n : ℕ) (s : List ℕ) → n < 65536 → le 2 (bytesOf 2 n ++ s
 unfolding le bytesOf
 two-told n s h = omega arith
 
-nothing-behind : (l : List ℕ) → l ++ [] ≡ l
-nothing-behind [] = refl
-nothing-behind (x ∷ l) = ap (λ (m : List ℕ). x ∷ m) (nothing-behind l)
-
-plain-small : (s : List ℕ) → plainSum s < 65536
+pub plain-small : (s : List ℕ) → plainSum s < 65536
 unfolding plainSum
 plain-small s = omega arith
 
-weighted-small : (s : List ℕ) → weightedSum s < 65536
+pub weighted-small : (s : List ℕ) → weightedSum s < 65536
 unfolding weightedSum
 weighted-small s = omega arith
 
@@ -44,7 +40,7 @@ module _ (s : List ℕ) (long : length s ≡ 508) where
   weighted-told : le 2 (drop 510 (summed s)) ≡ sumsOf (summed s) .weighted
   unfolding bytesOf
   weighted-told =
-      ap (le 2) (sym (drop-drop 2 508 (summed s)) ∙ ap (drop 2) last-is ∙ sym (nothing-behind (bytesOf 2 (weightedSum s))))
+      ap (le 2) (sym (drop-drop 2 508 (summed s)) ∙ ap (drop 2) last-is ∙ sym (append-nil (bytesOf 2 (weightedSum s))))
       ∙ two-told (weightedSum s) [] (weighted-small s) ∙ ap weightedSum (sym first-is)
 
   summed-long : length (summed s) ≡ 512

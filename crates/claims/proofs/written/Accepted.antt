@@ -1,0 +1,98 @@
+-- What a writer's accepted calls tell. Assumes nothing.
+use mathlib.Core.Path.{_≡_, refl, sym, ap, _∙_}
+use mathlib.Core.Bool.{Bool, true, false, true≢false, cond}
+use mathlib.Core.List.{List, [], _∷_}
+use Prim.Native.Nat.{ℕ, _≤_}
+use native.Mathlib.Omega.{arith}
+use borrow.Author.Tests.{eqb-true, eq-eqb}
+use lib.Dec.{eqb}
+use lib.ListN.{length}
+use Rattle.amounts.specs.Decline.{Answer, taken, declined, Check, check, checked, onTaken, isTaken, outOfTurn, layout, range, noRoom}
+use Rattle.amounts.proofs.decline.Laws.{was-taken}
+use Rattle.layout.specs.Frame.{blockOf}
+use Rattle.layout.specs.Outline.{mayPost}
+use Rattle.layout.specs.declared.outline.Outline.{Outline}
+use Rattle.layout.proofs.Checked.{AllPass, passed, pass-both}
+use Rattle.layout.proofs.setup.Laws.{within-true}
+use Rattle.post.specs.Fields.{postAt}
+use Rattle.post.specs.Kind.{fieldsFit, kindOf}
+use Rattle.post.specs.Moves.{laidOut, floatsFit, wellFormed}
+use Rattle.writer.specs.Page.{Page, draftOf, withBlock, posted, postOn, setUpOn}
+use Rattle.writer.specs.Tally as tally
+use Rattle.writer.specs.Tally.{isFree, kindChecks, setUpChecks, mayBegin, postAnswer}
+use Rattle.writer.proofs.tally.Laws.{Free, is-free, early}
+use Rattle.writer.specs.declared.tally.Tally.{Tally}
+
+-- an answer that is taken has a value
+pub has-value : {A : Type 0} (x : Answer A) → isTaken x ≡ true → (a : A) × (x ≡ taken a)
+has-value (taken a) e = (a, refl)
+has-value (declined n) e = absurd (true≢false (sym e))
+
+-- ---- a set-up block
+
+pub record SetUpTaken (room : ℕ) (t : Tally) (kind count : ℕ) (body : List ℕ) : Type 0 where
+  pub low : 1 ≤ kind
+  pub high : kind ≤ 2
+  pub rows : AllPass (kindChecks (t .outline) kind count body)
+  pub not-yet : mayPost (t .outline) ≡ false
+  pub long : length body ≡ 500
+  pub free : Free room t
+
+-- the page after it
+abbrev pub setUpPage : Page → ℕ → ℕ → List ℕ → Page
+setUpPage p kind count body =
+    withBlock p (blockOf kind count (p .draft .tally .blocks) body) (draftOf (tally.setUp (p .draft .tally) kind count body) (p .draft .block))
+
+pub set-up-taken : (p q : Page) (kind count : ℕ) (body : List ℕ) → setUpOn p kind count body ≡ taken q
+    → SetUpTaken (length (p .bytes)) (p .draft .tally) kind count body × (q ≡ setUpPage p kind count body)
+unfolding setUpOn
+set-up-taken p q kind count body e =
+    let t : Tally = p .draft .tally in
+    let room : ℕ = length (p .bytes) in
+    let h = passed (setUpChecks room t kind count body) (setUpPage p kind count body) q e in
+    let k = within-true 1 2 kind (h .0 .0) in
+    let both = pass-both (kindChecks (t .outline) kind count body) (check (isFree room t) noRoom ∷ []) (h .0 .1) in
+    let soon = early (t .outline) kind count body (both .0) in (
+      record { low = k .0; high = k .1; rows = both .0; not-yet = soon .0; long = soon .1; free = is-free room t (both .1 .0) },
+      h .1,
+    )
+
+-- ---- a post
+
+-- a well-formed post is 48 bytes
+pub formed-long : (o : Outline) (s : List ℕ) → isTaken (wellFormed o s) ≡ true → length s ≡ 48
+unfolding wellFormed laidOut
+formed-long o s e =
+    let p = postAt s in
+    let v = has-value (wellFormed o s) e in
+    let a = was-taken (laidOut o s) (λ k. checked (check (floatsFit (k .measure) p) range ∷ []) k) (v .0) (v .1) in
+    let b = was-taken (checked (check (eqb (length s) 48) layout ∷ []) p) (λ q. onTaken (kindOf (q .kind)) (λ k. checked (check (fieldsFit (k .limits o) q) layout ∷ []) k)) (a .0) (a .1) in
+    eqb-true (length s) 48 (passed (check (eqb (length s) 48) layout ∷ []) p (b .0) (b .1) .0 .0)
+
+pub record PostTaken (room : ℕ) (t : Tally) (s : List ℕ) : Type 0 where
+  pub in-turn : mayPost (t .outline) ≡ true
+  pub formed : isTaken (wellFormed (t .outline) s) ≡ true
+  pub long : length s ≡ 48
+  pub free : t .waiting ≡ 0 → Free room t
+
+pub post-taken : (p q : Page) (s : List ℕ) → postOn p s ≡ taken q → PostTaken (length (p .bytes)) (p .draft .tally) s × (q ≡ posted p s)
+unfolding postOn postAnswer
+post-taken p q s e =
+    let t : Tally = p .draft .tally in
+    let room : ℕ = length (p .bytes) in
+    let a = was-taken (postAnswer room t s) (λ _. taken (posted p s)) q e in
+    let b = was-taken (checked (check (mayPost (t .outline)) outOfTurn ∷ []) s)
+    (λ s. onTaken (wellFormed (t .outline) s) (λ k. checked (check (mayBegin room t) noRoom ∷ []) k)) (a .0) (a .1) in
+    let turn = passed (check (mayPost (t .outline)) outOfTurn ∷ []) s (b .0) (b .1) in
+    let c = was-taken (wellFormed (t .outline) (b .0)) (λ k. checked (check (mayBegin room t) noRoom ∷ []) k) (a .0) (b .2) in
+    let begins = passed (check (mayBegin room t) noRoom ∷ []) (c .0) (a .0) (c .2) .0 .0 in
+    let formed : isTaken (wellFormed (t .outline) s) ≡ true = ap (λ (x : List ℕ). isTaken (wellFormed (t .outline) x)) (sym (turn .1)) ∙ ap isTaken (c .1) in
+    let is : q ≡ posted p s = cc in (
+      record {
+        in-turn = turn .0 .0;
+        formed = formed;
+        long = formed-long (t .outline) s formed;
+        free = λ z. is-free room t (sym (ap (λ (x : Bool). cond x (isFree room t) true) (eq-eqb (t .waiting) 0 z)) ∙ begins);
+      },
+      is,
+    )

@@ -1,0 +1,85 @@
+-- Bytes put at a place, and the block that its frame makes of a body. Assumes nothing.
+use mathlib.Core.Path.{_≡_, refl, sym, ap, ap₂, _∙_}
+use mathlib.Core.List.{List, [], _∷_, _++_, append-assoc, append-nil}
+use Prim.Native.Nat.{ℕ, _+_, _-_, _/_, _%_, _≤_, _<_}
+use native.Mathlib.Numerals.{add-one}
+use native.Mathlib.Omega.{arith}
+use borrow.Author.Tests.{le-leb, lt-leb}
+use lib.Dec.{leb}
+use lib.ListN.{length, take, drop, getD, set, length-append, length-drop, drop-of-length-le}
+use lib.Seq.{length-take-le, take-length, take-append-add, paste, paste-suc}
+use Rattle.layout.specs.Bytes.{bytesOf}
+use Rattle.layout.specs.Frame.{bodyOf, plainSum, weightedSum, sumsOf, headOf, summed, blockOf}
+use Rattle.layout.proofs.frame.Made.{plain-small, weighted-small}
+use Rattle.writer.specs.Frame.{placed}
+
+-- where the bytes fit, and where they don't
+pub placed-in : (l : List ℕ) (at : ℕ) (s : List ℕ) → at + length s ≤ length l → placed l at s ≡ take at l ++ (s ++ drop (at + length s) l)
+unfolding placed
+placed-in l at s h = rw (le-leb (at + length s) (length l) h)
+
+pub placed-out : (l : List ℕ) (at : ℕ) (s : List ℕ) → length l < at + length s → placed l at s ≡ l
+unfolding placed
+placed-out l at s h = rw (lt-leb (at + length s) (length l) h)
+
+pub placed-long : (l : List ℕ) (at : ℕ) (s : List ℕ) → at + length s ≤ length l → length (placed l at s) ≡ length l
+placed-long l at s h =
+    ap length (placed-in l at s h)
+    ∙ omega (arith, length-append (take at l) (s ++ drop (at + length s) l), length-append s (drop (at + length s) l), length-take-le at l (omega arith), length-drop (at + length s) l)
+
+-- a turn of the loop of `put`, and its end
+module _ (l : List ℕ) (at : ℕ) (a m : List ℕ) (i : ℕ) (e : m ≡ paste l at a i) where
+  pub paste-more : at + i < length l → i < length a → set m (at + i) (getD a i 0) ≡ paste l at a (i + 1)
+  paste-more h k = rw (e, add-one i) (paste-suc l at a i 0 h k)
+
+  pub paste-whole : i ≡ length a → at + length a ≤ length l → m ≡ placed l at a
+  paste-whole k h =
+      e ∙ ap (paste l at a) k ∙ ap (λ (x : List ℕ). take at l ++ x ++ drop (at + length a) l) (take-length a)
+      ∙ append-assoc (take at l) a (drop (at + length a) l) ∙ sym (placed-in l at a h)
+
+-- ---- the frame around a body
+
+two-bytes : (n : ℕ) → n < 65536 → n / 256 ≡ n / 256 % 256
+two-bytes n h = omega arith
+
+module _ (block : List ℕ) (long : length block ≡ 512) (head : List ℕ) (eight : length head ≡ 8) where
+  headed : placed block 0 head ≡ head ++ drop 8 block
+  headed = placed-in block 0 head (omega (arith, long, eight)) ∙ ap (λ (n : ℕ). head ++ drop n block) {x = 0 + length head} {y = 8} (omega (arith, eight))
+
+  first-part : take 508 (placed block 0 head) ≡ head ++ bodyOf block
+  first-part = ap (take 508) headed ∙ ap (λ (n : ℕ). take n (head ++ drop 8 block)) {x = 508} {y = length head + 500} (omega (arith, eight)) ∙ take-append-add head (drop 8 block) 500
+
+  module _ (tail : List ℕ) (four : length tail ≡ 4) where
+    tailed : placed (placed block 0 head) 508 tail ≡ (head ++ bodyOf block) ++ tail
+    tailed =
+        let m = placed block 0 head in
+        let same = placed-long block 0 head (omega (arith, long, eight)) in
+        placed-in m 508 tail (omega (arith, same, long, four))
+        ∙ ap₂ (λ (x y : List ℕ). x ++ (tail ++ y)) first-part (drop-of-length-le m {i = 508 + length tail} (omega (arith, same, long, four)))
+        ∙ ap (λ (x : List ℕ). (head ++ bodyOf block) ++ x) (append-nil tail)
+
+sums-are : (p q w z a b : ℕ) → p ≡ a % 256 → q ≡ a / 256 → w ≡ b % 256 → z ≡ b / 256 → a < 65536 → b < 65536 → p ∷ q ∷ w ∷ z ∷ [] ≡ bytesOf 2 a ++ bytesOf 2 b
+unfolding bytesOf
+sums-are p q w z a b p= q= w= z= h k =
+    ap₂ (λ (x y : ℕ). x ∷ y ∷ w ∷ z ∷ []) p= (q= ∙ two-bytes a h) ∙ ap₂ (λ (x y : ℕ). a % 256 ∷ a / 256 % 256 ∷ x ∷ y ∷ []) w= (z= ∙ two-bytes b k)
+
+-- the block that the frame's bytes make, by what the code has of each byte
+pub framed-is : (block : List ℕ) (kind count number a b p q w z : ℕ) (m : List ℕ) → length block ≡ 512 → number < 65536
+    → m ≡ placed block 0 (80 ∷ 82 ∷ 84 ∷ 82 ∷ kind ∷ count ∷ a ∷ b ∷ [])
+    → a ≡ number % 256 → b ≡ number / 256
+    → p ≡ sumsOf m .plain % 256 → q ≡ sumsOf m .plain / 256 → w ≡ sumsOf m .weighted % 256 → z ≡ sumsOf m .weighted / 256
+    → placed m 508 (p ∷ q ∷ w ∷ z ∷ []) ≡ blockOf kind count number (bodyOf block)
+unfolding blockOf summed bytesOf
+framed-is block kind count number a b p q w z m long small is a= b= p= q= w= z= =
+    let head : List ℕ = 80 ∷ 82 ∷ 84 ∷ 82 ∷ kind ∷ count ∷ a ∷ b ∷ [] in
+    let whole : List ℕ = headOf kind count number ++ bodyOf block in
+    let named : head ≡ headOf kind count number = ap₂ (λ (x y : ℕ). 80 ∷ 82 ∷ 84 ∷ 82 ∷ kind ∷ count ∷ x ∷ y ∷ []) a= (b= ∙ two-bytes number small) in
+    let first : take 508 m ≡ whole = ap (take 508) is ∙ first-part block long head refl ∙ ap (λ (x : List ℕ). x ++ bodyOf block) named in
+    let plain : sumsOf m .plain ≡ plainSum whole = ap plainSum first in
+    let weighted : sumsOf m .weighted ≡ weightedSum whole = ap weightedSum first in
+    let lows : p ∷ q ∷ w ∷ z ∷ [] ≡ bytesOf 2 (plainSum whole) ++ bytesOf 2 (weightedSum whole) = sums-are p q w z (plainSum whole) (weightedSum whole)
+    (p= ∙ ap (λ (x : ℕ). x % 256) plain) (q= ∙ ap (λ (x : ℕ). x / 256) plain) (w= ∙ ap (λ (x : ℕ). x % 256) weighted) (z= ∙ ap (λ (x : ℕ). x / 256) weighted)
+    (plain-small whole) (weighted-small whole) in
+    ap (λ (x : List ℕ). placed x 508 (p ∷ q ∷ w ∷ z ∷ [])) is
+    ∙ tailed block long head refl (p ∷ q ∷ w ∷ z ∷ []) refl
+    ∙ ap₂ (λ (x y : List ℕ). (x ++ bodyOf block) ++ y) named lows
