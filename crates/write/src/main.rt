@@ -16,15 +16,19 @@ fn show(bytes: &[u8], n: usize) {
     }
 }
 
-// The journal has room for 4,096 blocks.
-fn main() {
-    let mut buffer = [0u8; 2097152];
-    let all = reading::read_records(&mut buffer);
+fn write_journal(buffer: &mut [u8]) {
+    let all = reading::read_records(buffer);
     if !all.is_read {
         trouble::unread(b"write");
         return;
     }
     let draft = all.draft;
-    let ended = page::end_posts(&mut buffer, all.filled, draft);
-    show(&buffer, ended.filled);
+    let ended = page::end_posts(buffer, all.filled, draft);
+    show(buffer, ended.filled);
+}
+
+// The journal has room for 4,096 blocks.
+fn main() {
+    let mut buffer = [0u8; 2097152];
+    write_journal(&mut buffer);
 }

@@ -1,13 +1,12 @@
 -- What a page answers is what its tally answers. Assumes nothing.
 use mathlib.Core.Path.{_≡_, refl, sym, ap, subst, _∙_}
 use mathlib.Core.Bool.{Bool, true, false, cond}
-use mathlib.Core.List.{List, [], _∷_, _++_}
+use mathlib.Core.List.{List, [], _∷_}
 use Prim.Native.Nat.{ℕ, _+_, _≤_, _<_}
 use native.Mathlib.Omega.{arith}
 use native.Mathlib.Decide.{decLe}
-use borrow.Author.Tests.{le-leb, lt-leb}
-use lib.Dec.{eqb, leb}
-use lib.ListN.{length, getD, take, drop, length-append, length-take, length-drop}
+use lib.Dec.{eqb}
+use lib.ListN.{length, getD, drop}
 use Rattle.amounts.specs.Decline.{Answer, taken, declined, Check, check, checked, onTaken, valueOr}
 use Rattle.amounts.specs.declared.decline.Decline.{Decline}
 use Rattle.layout.specs.Frame.{blockOf}
@@ -21,6 +20,7 @@ use Rattle.writer.specs.Page as pages
 use Rattle.writer.specs.Page.{Page}
 use Rattle.writer.specs.Tally.{setUpChecks, postAnswer, turned, posted, ended, setUp, setUpOn, postOn, Sound, Counts}
 use Rattle.writer.specs.declared.tally.Tally.{Tally}
+use Rattle.writer.proofs.frame.Laws.{placed-long, placed-out}
 use Rattle.records.specs.Counting.{recordCounted}
 use Rattle.records.specs.Records.{Recorded, call, malformed, recordOf, tagOf, spanOf, bytesOf, firstOf}
 use Rattle.records.specs.Whole.{recordOn}
@@ -62,12 +62,11 @@ counts-none room t e h = counts-as e (record { verdict = refl; after = refl; sou
 -- ---- bytes that are put leave the length
 
 length-placed : (l : List ℕ) (at : ℕ) (s : List ℕ) → length (placed l at s) ≡ length l
-unfolding placed
 length-placed l at s = go (decLe (at + length s) (length l))
   where
-    go : Dec (at + length s ≤ length l) → length (cond (leb (at + length s) (length l)) (take at l ++ (s ++ drop (at + length s) l)) l) ≡ length l
-    go (yes h) = rw (le-leb (at + length s) (length l) h) (simp (length-append, length-take, length-drop) (omega arith))
-    go (no h) = rw (lt-leb (at + length s) (length l) (omega arith))
+    go : Dec (at + length s ≤ length l) → length (placed l at s) ≡ length l
+    go (yes h) = placed-long l at s h
+    go (no h) = ap length (placed-out l at s (omega arith))
 
 -- ---- how far a page comes
 
