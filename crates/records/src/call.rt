@@ -1,5 +1,4 @@
 // A record on a page: a lent buffer, its filled length and the block being filled.
-ghost use mathlib.Core.Path.{_≡_};
 ghost use Rattle.writer.specs.Page.{pageOf, Sound, Answers};
 ghost use Rattle.records.specs.Records.{recordOf, firstOf};
 ghost use Rattle.records.specs.Whole.{recordOn};
@@ -35,7 +34,7 @@ pub fn take_record(buffer: &mut [u8], filled: usize, d: Draft, tag: u8, s: &[u8]
 }
 
 // The first record of bytes.
-pub fn take_first(buffer: &mut [u8], filled: usize, d: Draft, s: &[u8]) -> Taken
+pub(crate) fn take_first(buffer: &mut [u8], filled: usize, d: Draft, s: &[u8]) -> Taken
     requires { ⌜ Sound (pageOf (now buffer) filled d) ⌝ }
     ensures { λ r. ⌜ Answers (pageOf (now (buffer .entry)) filled d) (recordOn (pageOf (now (buffer .entry)) filled d) (firstOf (now (s .entry))))
         (r .verdict) (pageOf (now (buffer .exit)) (r .filled) (r .draft)) ⌝ }

@@ -1,5 +1,4 @@
 // A record on a tally alone: it answers as on a page, and nothing is written.
-ghost use mathlib.Core.Path.{_≡_};
 ghost use Rattle.writer.specs.Tally.{Sound, Counts};
 ghost use Rattle.records.specs.Counting.{recordCounted};
 ghost use Rattle.records.specs.Records.{recordOf, firstOf};

@@ -1,5 +1,5 @@
 // Journals from a list of records in memory: each record a call of a writer.
 pub mod call;
-pub mod counting;
+mod counting;
 pub mod record;
 pub mod whole;

@@ -1,18 +1,16 @@
 // The bytes of a list of records: each a tag byte, a length in 16 bits, and that many bytes.
 ghost use mathlib.Core.Path.{_≡_};
-ghost use Prim.Native.Nat.{_≤_};
-ghost use lib.ListN.{length};
 ghost use Rattle.records.specs.Records.{spanOf, bytesOf};
 use amounts::decline::Decline;
 use layout::bytes;
 
 // A set-up block.
-pub const SET_UP: u8 = b'S';
+pub(crate) const SET_UP: u8 = b'S';
 
-pub const POST: u8 = b'P';
+pub(crate) const POST: u8 = b'P';
 
 // An end: the posts that wait are written as a block.
-pub const END: u8 = b'E';
+pub(crate) const END: u8 = b'E';
 
 // Stands for a record that is cut short or has another tag.
 pub const MALFORMED: Decline = Decline { number: 255 };
@@ -24,7 +22,7 @@ fn wide(n: u16) -> usize
 }
 
 // How many bytes the first record takes, its tag and length with it; more than are there where it is cut short.
-pub fn span_of(s: &[u8]) -> usize
+pub(crate) fn span_of(s: &[u8]) -> usize
     ensures { λ r. ⌜ r ≡ spanOf (now (s .entry)) ⌝ }
 {
     3 + wide(bytes::le16(s, 1))

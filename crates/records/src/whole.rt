@@ -16,13 +16,13 @@ pub enum WriteEnd {
 }
 
 // The first record that isn't taken.
-pub enum Stop {
+enum Stop {
     At { number: u8, place: usize },
     Nowhere,
 }
 
 // The records in turn in a buffer of so many bytes, up to the first that isn't taken; nothing is written.
-pub fn stop_in(records: &[u8], room: usize) -> Stop
+fn stop_in(records: &[u8], room: usize) -> Stop
     ensures { λ r. ⌜ StopsIn room (now (records .entry)) r ⌝ }
 {
     let mut t = tally::fresh();

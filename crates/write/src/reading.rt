@@ -1,5 +1,4 @@
 // The records of standard input, one by one, into a lent buffer.
-ghost use lib.ListN.{length};
 ghost use Rattle.write.specs.Turn.{Kept};
 use crate::turn;
 use crate::turn::Turn;

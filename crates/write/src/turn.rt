@@ -1,7 +1,7 @@
 // What becomes of a record that was read, and the line on standard error of one that isn't taken.
 ghost use mathlib.Core.Path.{_≡_};
 ghost use lib.ListN.{length};
-ghost use Rattle.streams.specs.Record.{Within, isWhole};
+ghost use Rattle.streams.specs.Record.{Within};
 ghost use Rattle.writer.specs.Page.{pageOf, Sound};
 ghost use Rattle.write.specs.Turn.{closedTurn, Turned, Told};
 use amounts::decline::Decline;

@@ -7,12 +7,13 @@ use Rattle.amounts.specs.Decline.{Answer, taken, declined}
 use Rattle.layout.specs.declared.verdict.Verdict.{Verdict}
 use Rattle.layout.specs.declared.verdict.Verdict.the-variants.{Declined}
 use Rattle.writer.specs.Page.{Page, setUpOn, postOn, ended, Sound, Answers}
-use Rattle.records.specs.Records.{Recorded, malformed, recordOf, tagOf, spanOf, bytesOf, firstOf}
+use Rattle.records.specs.Records.{recordOf, tagOf, spanOf, bytesOf, firstOf}
 use Rattle.records.specs.Whole.{recordOn}
 use Rattle.records.proofs.record.Laws.{set-up-is, post-is, end-is, none-is, first-short, first-whole}
 
 module _ (p : Page) (tag : ℕ) (s : List ℕ) where
-  pub on-set-up : (kind count : ℕ) (body : List ℕ) → tag ≡ 83 → kind ≡ getD s 0 0 → count ≡ getD s 1 0 → body ≡ drop 2 s → recordOn p (recordOf tag s) ≡ setUpOn p kind count body
+  pub on-set-up : (kind count : ℕ) (body : List ℕ) → tag ≡ 83 → kind ≡ getD s 0 0 → count ≡ getD s 1 0 → body ≡ drop 2 s
+      → recordOn p (recordOf tag s) ≡ setUpOn p kind count body
   on-set-up kind count body e k n b = ap (recordOn p) (set-up-is tag s e) ∙ rw (k, n, b)
 
   module _ (no-set-up : tag ≡ 83 → ⊥) where

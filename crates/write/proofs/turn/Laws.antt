@@ -9,7 +9,7 @@ use Rattle.streams.specs.declared.record.Record.{Record}
 use Rattle.writer.specs.Page.{pageOf, Sound}
 use Rattle.writer.specs.declared.draft.Draft.{Draft}
 use Rattle.writer.specs.declared.page.Taken.{Taken}
-use Rattle.write.specs.Turn.{closedTurn, Told, Kept, Turned}
+use Rattle.write.specs.Turn.{closedTurn, Told, Turned}
 use Rattle.write.specs.declared.turn.Turn.{Turn}
 
 pub closed-turned : (given : List ℕ) (filled : ℕ) (d : Draft) (read : Bool) (r : Record) (t : Turn) → t ≡ closedTurn filled d read → Sound (pageOf given filled d) → Turned given given r t
