@@ -9,8 +9,9 @@ use Rattle.writer.specs.Page.{Page}
 use Rattle.writer.specs.Tally.{setUpOn, postOn, ended}
 use Rattle.writer.specs.declared.tally.Tally.{Tally}
 use Rattle.records.specs.Records.{Recorded, call, malformed}
-use Rattle.records.specs.Whole.{malformedNumber, Outcome, whole, writtenIn, stopOf}
+use Rattle.records.specs.Whole.{malformedNumber, Outcome, whole, stopped, writtenIn}
 use Rattle.records.specs.declared.whole.Stop.{Stop}
+use Rattle.records.specs.declared.whole.Stop.the-variants.{At, Nowhere}
 
 abbrev pub callCounted : ℕ → Tally → Call → Answer Tally
 callCounted room t (setUp kind count body) = setUpOn room t kind count body
@@ -20,6 +21,10 @@ callCounted room t end = taken (ended t)
 abbrev pub recordCounted : ℕ → Tally → Recorded → Answer Tally
 recordCounted room t (call c) = callCounted room t c
 recordCounted room t malformed = declined malformedNumber
+
+abbrev pub stopOf : Outcome → Stop
+stopOf (whole p) = Nowhere
+stopOf (stopped place n) = At n place
 
 -- the first record that isn't taken, in whichever buffer of so many bytes
 abbrev pub StopsIn : ℕ → List ℕ → Stop → Type 0

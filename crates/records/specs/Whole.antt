@@ -5,8 +5,6 @@ use Rattle.amounts.specs.Decline.{Answer, taken, declined}
 use Rattle.writer.specs.Page.{Page, freshPage, ended}
 use Rattle.writer.specs.Calls.{answerTo}
 use Rattle.records.specs.Records.{Recorded, call, malformed, recordsIn}
-use Rattle.records.specs.declared.whole.Stop.{Stop}
-use Rattle.records.specs.declared.whole.Stop.the-variants.{At, Nowhere}
 use Rattle.records.specs.declared.whole.WriteEnd.{WriteEnd}
 use Rattle.records.specs.declared.whole.WriteEnd.the-variants.{Written, Stopped}
 
@@ -46,7 +44,3 @@ endOf (stopped place n) = Stopped n place
 abbrev pub leftIn : List ℕ → Outcome → List ℕ
 leftIn lent (whole p) = p .bytes
 leftIn lent (stopped place n) = lent
-
-abbrev pub stopOf : Outcome → Stop
-stopOf (whole p) = Nowhere
-stopOf (stopped place n) = At n place

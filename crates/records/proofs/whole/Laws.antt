@@ -16,9 +16,9 @@ use Rattle.writer.specs.Tally as tallies
 use Rattle.writer.specs.Tally.{freshTally, Counts}
 use Rattle.writer.specs.declared.draft.Draft.{Draft}
 use Rattle.writer.specs.declared.tally.Tally.{Tally}
-use Rattle.records.specs.Counting.{recordCounted, StopsIn, Filled}
+use Rattle.records.specs.Counting.{recordCounted, stopOf, StopsIn, Filled}
 use Rattle.records.specs.Records.{Recorded, call, malformed, spanOf, firstOf, restOf, behind, recordsIn}
-use Rattle.records.specs.Whole.{Outcome, whole, stopped, onward, recordOn, writeAll, writtenIn, endOf, leftIn, stopOf}
+use Rattle.records.specs.Whole.{Outcome, whole, stopped, onward, recordOn, writeAll, writtenIn, endOf, leftIn}
 use Rattle.records.specs.declared.whole.Stop.the-variants.{At, Nowhere}
 use Rattle.records.specs.declared.whole.WriteEnd.the-variants.{Written, Stopped}
 use Rattle.records.proofs.counting.Laws.{Reached, page-declined, page-taken}
