@@ -33,7 +33,7 @@ pub fn read_float(bits: u64, range: Range) -> FloatRead
     FloatRead::Declined(decline::RANGE)
 }
 
-// The value of a pattern in a range from 0 or above to an end: a float is no larger than the end where, without its sign, its pattern isn't.
+// The value of a pattern in a range that starts at 0 or above and has an end: a float is at most the end just where its pattern, without the sign, is at most the end's.
 pub(crate) fn read_upward(bits: u64, range: Range) -> FloatRead
     requires { ⌜ Upward range ⌝ }
     ensures { λ r. ⌜ answer r ≡ readingOf range (valueOf bits) ⌝ }

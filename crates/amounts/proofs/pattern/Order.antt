@@ -1,24 +1,24 @@
 -- Without the sign, the order of finite patterns is that of their values' sizes. Assumes nothing.
 use mathlib.Core.Path.{_≡_, refl, sym, ap, subst, _∙_}
 use mathlib.Core.Bool.{Bool, true, false, not, _&&_, _||_, true≢false, false≢true}
-use mathlib.Core.Logic.{_⊎_, inl, inr}
+use mathlib.Core.Logic.{inl, inr}
 use Prim.Native.Nat.{ℕ, zero, suc, _+_, _*_, _%_, _/_, _≤_, _<_, _^_}
 use native.Mathlib.Nat.{le-of-eq, le-of-lt, le-trans, lt-of-lt-of-le, eq-or-lt-of-le, mul-pos, mul-le-mul-right, mul-lt-mul-of-pos-right, le-of-mul-le-mul-right}
 use native.Mathlib.Omega.{arith}
 use lib.IntN.{ℤ}
 use lib.Dec.{T, eqb, leb, ltb}
 use lib.Pow.{pow-add, pow-pos, pow-mono, shl-lt}
-use lib.Ieee.{Float, fin, binary64, up, down, odd, ofFields, ofBits, toBits, isNan, le}
+use lib.Ieee.{Float, fin, binary64, up, down, ofFields, ofBits, toBits, isNan, le}
 use lib.Ieee.Bits.{nanBits-is, toBits-ofBits}
 use lib.Ieee.Exact.{HasValue, odd-sign}
 use lib.Ieee.Fits.{down-pos}
 use lib.Ieee.Order.{transfer, le-of-values}
 use lib.Ieee.Positive.{first-pos}
-use borrow.Author.Tests.{eq-eqb, ne-eqb, lt-ltb, le-ltb, lt-leb, eqb-true, leb-true, leb-false, ltb-true, ltb-false}
+use borrow.Author.Tests.{eq-eqb, ne-eqb, le-ltb, lt-leb, eqb-true, leb-true, leb-false, ltb-true, ltb-false}
 use Rattle.amounts.specs.Binary64.{finite, valueOf}
 use Rattle.amounts.specs.Pattern.{inRange, Upward}
 use Rattle.amounts.specs.declared.pattern.Range.{Range}
-use Rattle.amounts.proofs.pattern.Laws.{finite-below, not-finite, no-nan}
+use Rattle.amounts.proofs.pattern.Laws.{not-finite, no-nan}
 
 -- ---- the size of a value in the format's smallest values, by the exponent's field and the digits'
 
@@ -107,7 +107,8 @@ unfolding le
 above (fin true m e) y a b c C p q h = absurd (true≢false (p .0))
 above (fin false m e) (fin true n d) a b c C p q h = absurd (true≢false (q .0))
 above (fin false m e) (fin false n d) a b c C p q h =
-    let s = strict (m * up e * down d) (n * up d * down e) (λ t. let z = le-of-mul-le-mul-right (transfer a b c c (m * up e) (n * up d) (down e) (down d) (down-pos e) (down-pos d) (sym (p .1)) (sym (q .1)) t) C in omega (arith, z)) in
+    let back = transfer a b c c (m * up e) (n * up d) (down e) (down d) (down-pos e) (down-pos d) (sym (p .1)) (sym (q .1)) in
+    let s = strict (m * up e * down d) (n * up d * down e) (λ t. let z = le-of-mul-le-mul-right (back t) C in omega (arith, z)) in
     rw (le-ltb (m * up e * down d) (n * up d * down e) (le-of-lt s), ne-eqb (m * up e * down d) (n * up d * down e) (λ (z : m * up e * down d ≡ n * up d * down e). omega (arith, s)))
 
 neither : (a b : ℕ) → 0 < b → (eqb a b && eqb a 0) ≡ false
