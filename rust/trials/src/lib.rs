@@ -8,7 +8,6 @@ pub mod calls;
 pub mod case;
 pub mod damage;
 pub mod floats;
-pub mod layout;
 pub mod ledger;
 pub mod limit;
 pub mod lists;

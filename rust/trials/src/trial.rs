@@ -6,10 +6,10 @@ use std::io::{self, Write};
 use std::ops::Range;
 use std::path::PathBuf;
 
+use blocks::{Block, BLOCK};
 use prtr::Refused;
 
 use crate::case;
-use crate::layout::{Block, BLOCK};
 use crate::rng::Rng;
 
 /// The seed where `PRTR_SEED` has none.

@@ -11,13 +11,13 @@ use std::process::{Child, Command, Stdio};
 use std::thread::sleep;
 use std::time::{Duration, Instant};
 
+use blocks::{tens, Block, Post, BLOCK};
 use prtr::Class;
 use trials::floats::{within, RANGES};
-use trials::layout::{Block, Post, BLOCK};
 use trials::program;
 use trials::rng::Rng;
-use trials::site::{Site, ROWS, WHOLE};
-use trials::year::{tens, Year};
+use trials::site::{self, ROWS, WHOLE};
+use trials::year::Year;
 
 /// The rounds whose median counts.
 const ROUNDS: usize = 25;
@@ -29,7 +29,7 @@ const PLANTS: u64 = 11;
 /// A year of 4,000 posts, ten to a block, and the close in a block of its own.
 fn full_year(seed: u64) -> Vec<Block> {
     let mut rng = Rng::new(seed);
-    let site = Site::sized(&mut rng, 8, 12, 8);
+    let site = site::sized(&mut rng, 8, 12, 8);
     let mut year = Year::open(&mut rng, site, 4_000);
     year.posts.push(Post::CLOSE);
     year.sizes = tens(4_000);
