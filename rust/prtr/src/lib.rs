@@ -3,8 +3,9 @@
 //! Material is in grams, content in parts per million by mass (ppm), substance in micrograms. The papers' numbers
 //! are whole; a vapour loss is worked out in `f64` and then cut to whole micrograms.
 //!
-//! The functions here answer for every input: what is outside the limits is an [`Err`] with its [`Decline`], and a
-//! refused journal one that also says which block. [`Decline::NoSubstance`] comes from none of them.
+//! The functions here answer for every input: what is outside the limits is an [`Err`] with its [`Decline`], a refused
+//! journal one that also says which block, and a journal that can't be written one that says which record.
+//! [`Decline::NoSubstance`] comes from none of them.
 //!
 //! ```
 //! use prtr::{Class, Form};
@@ -31,11 +32,15 @@ mod decline;
 mod form;
 pub mod raw;
 mod refused;
+mod unwritten;
+mod writer;
 
 pub use class::Class;
 pub use decline::Decline;
 pub use form::Form;
 pub use refused::Refused;
+pub use unwritten::{Cause, TooLong, Unwritten};
+pub use writer::{write_into, Writer};
 
 /// The bytes that [`filing_into`] must be lent: the room that `prtr_filing` asks for; no text is longer.
 pub const ROOM: usize = 1336;
@@ -65,7 +70,7 @@ fn answer<A>(status: u8, value: A) -> Result<A, Decline> {
 fn declined(number: u8) -> Decline {
     match Decline::from_number(number) {
         Some(decline) => decline,
-        None => panic!("libprtr.a answered {number}, which is no decline of document 01"),
+        None => panic!("libprtr.a answered {number}, which is no decline of the papers"),
     }
 }
 
