@@ -109,14 +109,14 @@ fn perhaps_faulty(rng: &mut Rng, list: &mut List, year: &Year, block: &Block) {
 }
 
 /// The block with one fault.
-fn faulty(rng: &mut Rng, block: &Block) -> Block {
+pub(crate) fn faulty(rng: &mut Rng, block: &Block) -> Block {
     let mut blocks = vec![*block];
     fault(rng, &mut blocks);
     blocks[0]
 }
 
 /// A post of the block with one fault.
-fn faulty_post(rng: &mut Rng, block: &Block) -> Vec<u8> {
+pub(crate) fn faulty_post(rng: &mut Rng, block: &Block) -> Vec<u8> {
     let at = BODY + POST * rng.place(block[5].clamp(1, 10).into());
     let mut alone = frame(3, 1, 0);
     alone[BODY..BODY + POST].copy_from_slice(&block[at..at + POST]);

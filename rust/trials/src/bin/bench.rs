@@ -17,6 +17,7 @@ use trials::floats::{within, RANGES};
 use trials::program;
 use trials::rng::Rng;
 use trials::site::{self, ROWS, WHOLE};
+use trials::writes;
 use trials::year::Year;
 
 /// The rounds whose median counts.
@@ -63,7 +64,7 @@ fn compare(name: &str, items: usize, mut library: impl FnMut(), mut model: impl 
     let library = median(rounds.iter().map(|round| round.0).collect()) * each;
     let model = median(rounds.iter().map(|round| round.1).collect()) * each;
     let ratio = median(rounds.iter().map(|round| round.0 / round.1).collect());
-    println!("{name:<28} {library:>12.1} {model:>12.1} {ratio:>8.2}");
+    println!("{name:<32} {library:>12.1} {model:>12.1} {ratio:>8.2}");
 }
 
 fn bench_journals(name: &str, journals: &[Vec<Block>]) {
@@ -79,6 +80,29 @@ fn bench_journals(name: &str, journals: &[Vec<Block>]) {
     let model = || {
         for journal in journals {
             black_box(model::filing(black_box(journal.as_flattened())));
+        }
+    };
+    compare(name, journals.len(), library, model);
+}
+
+/// Times the writing of the journals' records, each into a buffer of its journal's length.
+fn bench_writes(name: &str, journals: &[Vec<Block>]) {
+    let lists: Vec<(Vec<u8>, usize)> = journals
+        .iter()
+        .map(|journal| (writes::of_journal(journal), journal.as_flattened().len()))
+        .collect();
+    let most = lists.iter().map(|list| list.1).max().unwrap_or(0);
+    let mut out = vec![0; most];
+    let library = || {
+        for (list, room) in &lists {
+            let written = prtr::write_into(black_box(list), &mut out[..*room]);
+            black_box(written.expect("a year's records are taken"));
+        }
+    };
+    let model = || {
+        for (list, room) in &lists {
+            let written = writes::whole(black_box(list), *room);
+            black_box(written.expect("a year's records are taken"));
         }
     };
     compare(name, journals.len(), library, model);
@@ -234,7 +258,7 @@ fn bench_memory(years: &[Vec<Block>]) {
         return;
     }
     println!("\nmemory of the program filing, most kB before its input ends");
-    println!("{:<28} {:>12} {:>12}", "", "least peak", "most peak");
+    println!("{:<32} {:>12} {:>12}", "", "least peak", "most peak");
     let years: Vec<&[u8]> = years.iter().map(|year| year.as_flattened()).collect();
     let rows = [
         ("no bytes", &[&[][..]][..]),
@@ -242,8 +266,8 @@ fn bench_memory(years: &[Vec<Block>]) {
     ];
     for (name, journals) in rows {
         match peaks(&program, journals) {
-            Some((least, most)) => println!("{name:<28} {least:>12} {most:>12}"),
-            None => println!("{name:<28} not measured"),
+            Some((least, most)) => println!("{name:<32} {least:>12} {most:>12}"),
+            None => println!("{name:<32} not measured"),
         }
     }
 }
@@ -258,13 +282,19 @@ fn main() {
             model::filing(journal),
             "both print the same"
         );
+        let list = writes::of_journal(year);
+        let mut written = vec![0; journal.len()];
+        assert_eq!(prtr::write_into(&list, &mut written), Ok(journal.len()));
+        assert_eq!(written, journal, "a year is written as it was");
     }
     println!(
-        "{:<28} {:>12} {:>12} {:>8}",
+        "{:<32} {:>12} {:>12} {:>8}",
         "ns each, medians", "library", "model", "ratio"
     );
     bench_journals("a year of 4,000 posts", &years[..1]);
     bench_journals("11 plants' years, each", &years);
+    bench_writes("a year of 4,000 posts written", &years[..1]);
+    bench_writes("11 plants' years written, each", &years);
     bench_leaves();
     bench_losses();
     bench_memory(&years);
