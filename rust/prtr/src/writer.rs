@@ -47,8 +47,9 @@ const MOST: usize = 65_536;
 ///
 /// let journal = writer.finish()?;
 /// assert_eq!(journal.len(), 3 * 512);
-/// let text = prtr::filing(&journal)?;
-/// assert_eq!(text.lines().last(), Some("80 1215000000000 Y 230 0.0 0.0 0.0 0.0 0.0"));
+/// let title = "substance handled due air water soil land sewer offsite\n";
+/// let xylene = "80 1215000000000 Y 230 0.0 0.0 0.0 0.0 0.0\n";
+/// assert_eq!(prtr::filing(&journal)?, [title, xylene].concat());
 /// # Ok::<(), Box<dyn std::error::Error>>(())
 /// ```
 #[derive(Clone, Debug, Default)]

@@ -1,7 +1,6 @@
 //! Worked lists of records, with the journal and the refusals that document 02 (a) gives them.
 
-use blocks::{altered, journal, plan, with_floats, xylene, Block, Post, BODY, POST, SUMS};
-use blocks::{record, set_up};
+use blocks::{journal, plan, record, set_up, with_floats, xylene, Block, Post, BODY, POST, SUMS};
 
 use crate::writes::{add_end, add_post, add_set_up, of_journal, MALFORMED};
 
@@ -82,7 +81,9 @@ pub fn all() -> Vec<Fixed> {
         vec![xylene_year()],
         tens(),
         ends(),
-        turns(),
+        set_up_turns(),
+        post_turns(),
+        kinds_and_lengths(),
         layouts(),
         floats(),
         malformed(),
@@ -152,68 +153,45 @@ fn ends() -> Vec<Fixed> {
     ]
 }
 
-/// Decline 4: of set-up blocks, also while posts wait, and of posts before the last stage.
-fn turns() -> Vec<Fixed> {
-    let post = opening(7);
-    let post = Step::Post(&post);
+/// A list of these steps without openings, of which one record isn't taken.
+fn set_up_with(name: &'static str, steps: &[Step], refused: (usize, u8), set_up: usize) -> Fixed {
+    fixed(name, steps, &[refused], set_up, &[])
+}
+
+/// Decline 4 of set-up blocks, also while posts wait.
+fn set_up_turns() -> Vec<Fixed> {
+    let waiting = [Plant(0), Plant(1), Openings(2), Plant(0), Plant(1)];
+    let first = [Plant(1), Plant(0), Plant(1)];
     vec![
-        fixed(
-            "a post first",
-            &[post, Plant(0), Plant(1), Openings(1)],
-            &[(0, 4)],
-            2,
-            &[1],
-        ),
-        fixed(
-            "a stage first",
-            &[Plant(1), Plant(0), Plant(1)],
-            &[(0, 4)],
-            2,
-            &[],
-        ),
-        fixed(
-            "a post too early",
-            &[Plant(0), post, Plant(1)],
-            &[(1, 4)],
-            2,
-            &[],
-        ),
-        fixed(
-            "a second plan",
-            &[Plant(0), Plant(0), Plant(1)],
-            &[(1, 4)],
-            2,
-            &[],
-        ),
-        fixed(
-            "a second stage",
-            &[Plant(0), Plant(1), Plant(1)],
-            &[(2, 4)],
-            2,
-            &[],
-        ),
+        set_up_with("a stage first", &first, (0, 4), 2),
+        set_up_with("a second plan", &[Plant(0), Plant(0)], (1, 4), 1),
+        set_up_with("a second stage", &[Plant(0), Plant(1), Plant(1)], (2, 4), 2),
+        another_stage(),
         fixed(
             "a set-up while posts wait",
-            &[
-                Plant(0),
-                Plant(1),
-                Openings(2),
-                Plant(0),
-                Plant(1),
-                Openings(9),
-            ],
+            &[&waiting[..], &[Openings(9)]].concat(),
             &[(4, 4), (5, 4)],
             2,
             &[10, 1],
         ),
-        another_stage(),
+    ]
+}
+
+/// Decline 4 of posts: before the last stage is described.
+fn post_turns() -> Vec<Fixed> {
+    let post = opening(7);
+    let post = Step::Post(&post);
+    let steps = [post, Plant(0), post, Plant(1), Openings(1)];
+    vec![
+        fixed("posts too early", &steps, &[(0, 4), (2, 4)], 2, &[1]),
+        fixed("no post first", &[Step::Post(&[])], &[(0, 4)], 0, &[]),
     ]
 }
 
 /// A plan of two stages, whose second is given first.
 fn another_stage() -> Fixed {
     let first = plan(&[(80, 1)], &[[450_000]], 2);
-    let stage = |place| altered(xylene::site().stages[0].block(place), 6, &[place + 1]);
+    let stage = |place| xylene::site().stages[0].block(place);
     let mut list = Vec::new();
     for block in [first, stage(1), stage(0), stage(0), stage(1)] {
         add_set_up(&mut list, &block);
@@ -226,90 +204,53 @@ fn another_stage() -> Fixed {
     }
 }
 
-/// Decline 6: another kind before 4, a body's length after it, the layout of bodies and posts.
-fn layouts() -> Vec<Fixed> {
+/// Decline 6 of another kind, before 4, and of a body of another length, after it.
+fn kinds_and_lengths() -> Vec<Fixed> {
     let blocks = xylene::site().blocks();
     let [first, second] = [0, 1].map(|place: usize| &blocks[place][BODY..SUMS]);
     let long = [first, &[0]].concat();
+    let in_turn = |name, kind, body| {
+        let steps = [SetUp(kind, 1, body), Plant(0)];
+        set_up_with(name, &steps, (0, 6), 1)
+    };
+    let behind = |name, kind, count, body, number| {
+        let steps = [Plant(0), SetUp(kind, count, body)];
+        set_up_with(name, &steps, (1, number), 1)
+    };
+    vec![
+        in_turn("kind 3 on a fresh writer", 3, first),
+        in_turn("499 bytes in turn", 1, &first[..499]),
+        in_turn("501 bytes in turn", 1, &long),
+        behind("kind 3 behind a plan", 3, 1, first, 6),
+        behind("kind 0 without a body", 0, 0, &[], 6),
+        behind("499 bytes out of turn", 1, 1, &first[..499], 4),
+        behind("499 bytes of a stage", 2, 0, &second[..499], 6),
+        behind("499 bytes of the next stage", 2, 1, &second[..499], 4),
+    ]
+}
+
+/// Decline 6 of a body's layout and of a post.
+fn layouts() -> Vec<Fixed> {
+    let blocks = xylene::site().blocks();
+    let plan = &blocks[0][BODY..SUMS];
     let post = opening(1);
     let unknown = Post::stock(1, 1, 1).bytes();
+    let posts = [&post[..47], &[], &unknown].map(Step::Post);
+    let plant = [Plant(0), Plant(1), Openings(1)];
     vec![
-        fixed(
-            "kind 3 on a fresh writer",
-            &[SetUp(3, 1, first), Plant(0)],
-            &[(0, 6)],
+        set_up_with("a plan of no substance", &[SetUp(1, 0, plan)], (0, 6), 0),
+        set_up_with(
+            "a plan as a stage",
+            &[Plant(0), SetUp(2, 0, plan)],
+            (1, 6),
             1,
-            &[],
         ),
         fixed(
-            "kind 0 out of turn",
-            &[Plant(0), SetUp(0, 0, &[])],
-            &[(1, 6)],
-            1,
-            &[],
-        ),
-        fixed(
-            "499 bytes in turn",
-            &[SetUp(1, 1, &first[..499]), Plant(0)],
-            &[(0, 6)],
-            1,
-            &[],
-        ),
-        fixed(
-            "499 bytes out of turn",
-            &[Plant(0), SetUp(1, 1, &first[..499])],
-            &[(1, 4)],
-            1,
-            &[],
-        ),
-        fixed(
-            "501 bytes in turn",
-            &[SetUp(1, 1, &long), Plant(0)],
-            &[(0, 6)],
-            1,
-            &[],
-        ),
-        fixed(
-            "a stage of 499 bytes",
-            &[Plant(0), SetUp(2, 0, &second[..499])],
-            &[(1, 6)],
-            1,
-            &[],
-        ),
-        fixed(
-            "a plan of no substance",
-            &[SetUp(1, 0, first)],
-            &[(0, 6)],
-            0,
-            &[],
-        ),
-        fixed(
-            "a plan for a stage",
-            &[Plant(0), SetUp(2, 0, first)],
-            &[(1, 6)],
-            1,
-            &[],
-        ),
-        fixed(
-            "posts of other lengths",
-            &[
-                Plant(0),
-                Plant(1),
-                Openings(1),
-                Step::Post(&post[..47]),
-                Step::Post(&[]),
-                Openings(1),
-            ],
-            &[(3, 6), (4, 6)],
+            "posts of other lengths, and of another material",
+            &[&plant[..], &posts, &[Openings(1)]].concat(),
+            &[(3, 6), (4, 6), (5, 6)],
             2,
             &[2],
-        ),
-        fixed(
-            "a material that the plant hasn't",
-            &[Plant(0), Plant(1), Step::Post(&unknown), Openings(1)],
-            &[(2, 6)],
-            2,
-            &[1],
         ),
     ]
 }

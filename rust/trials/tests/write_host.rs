@@ -1,11 +1,11 @@
 //! Lists of records given to the library's writer and to the model's: status, place, length and every lent byte.
 
-use blocks::{xylene, BLOCK};
+use blocks::{xylene, Block, BLOCK, BODY, POST};
 use prtr::{raw, Cause, Unwritten};
 use trials::fixed;
 use trials::rng::Rng;
 use trials::trial::{cases, declines, say, Trial};
-use trials::writes::{self, add_end, add_post, add_set_up, records, Record, MALFORMED};
+use trials::writes::{self, add_end, add_post, add_set_up, of_journal, records, Record, MALFORMED};
 
 /// What the cells hold before a call.
 const WRITTEN: usize = 0x5a5a_5a5a;
@@ -67,6 +67,26 @@ fn cells(unwritten: Unwritten) -> (u8, usize) {
     (status, unwritten.record)
 }
 
+/// The bytes of a list's set-up blocks and posts, its ends aside.
+fn kept(list: &[u8]) -> Vec<u8> {
+    let kept = |record| match record {
+        Record::SetUp(kind, count, body) => [&[b'S', kind, count], body].concat(),
+        Record::Post(bytes) => [b"P", bytes].concat(),
+        _ => Vec::new(),
+    };
+    records(list).flat_map(kept).collect()
+}
+
+/// A journal with each of its posts in a block of its own.
+fn singly(blocks: &[Block]) -> Vec<Block> {
+    let (set_up, posts): (Vec<&Block>, Vec<&Block>) =
+        blocks.iter().partition(|block| block[4] != 3);
+    let of_block = |block: &&Block| block[BODY..].as_chunks::<POST>().0[..block[5].into()].to_vec();
+    let posts: Vec<[u8; POST]> = posts.iter().flat_map(of_block).collect();
+    let set_up = set_up.into_iter().copied().collect();
+    blocks::journal(set_up, &posts, &vec![1; posts.len()])
+}
+
 /// The library beside the model.
 struct Runs {
     trial: Trial,
@@ -74,6 +94,8 @@ struct Runs {
     met: [u64; 14],
     malformed: u64,
     blocks: usize,
+    /// Journals whose posts a book takes one by one.
+    singly: u64,
 }
 
 impl Runs {
@@ -83,6 +105,7 @@ impl Runs {
             met: [0; 14],
             malformed: 0,
             blocks: 0,
+            singly: 0,
         }
     }
 
@@ -97,6 +120,9 @@ impl Runs {
             self.finish_safe(&writer, list, &left);
         }
         self.count(&left);
+        if left.0 == 0 {
+            self.compare_journal(list, &left.3[..left.1]);
+        }
         left
     }
 
@@ -122,9 +148,20 @@ impl Runs {
             MALFORMED => self.malformed += 1,
             status => self.met[usize::from(status)] += 1,
         }
-        if left.0 == 0 {
-            self.blocks += left.1 / BLOCK;
-            self.trial.give(&left.3[..left.1]);
+    }
+
+    /// A written journal has the list's set-up and posts in order, and where a book takes them one by one, it takes the
+    /// journal too and files the same.
+    fn compare_journal(&mut self, list: &[u8], journal: &[u8]) {
+        self.blocks += journal.len() / BLOCK;
+        let (blocks, _) = journal.as_chunks::<BLOCK>();
+        self.trial
+            .agree(list, &kept(&of_journal(blocks)), &kept(list));
+        let filed = self.trial.give(journal).text;
+        let singly = model::filing(singly(blocks).as_flattened());
+        if !singly.starts_with(b"refused") {
+            self.singly += 1;
+            self.trial.agree(journal, &filed, &singly);
         }
     }
 
@@ -133,10 +170,11 @@ impl Runs {
             met,
             malformed,
             blocks,
+            singly,
             ..
         } = self;
         say(&format!(
-            "writes: {} lists written in {blocks} blocks, {malformed} malformed; declined{}",
+            "writes: {} lists written in {blocks} blocks, {singly} taken post by post, {malformed} malformed; declined{}",
             met[0],
             declines(met)
         ));
@@ -146,6 +184,11 @@ impl Runs {
             assert!(met >= least, "{status} was answered only {met} times");
         }
         assert!(*malformed >= least, "only {malformed} lists were malformed");
+        assert!(
+            (least..met[0]).contains(singly),
+            "{singly} of {} lists were taken post by post",
+            met[0]
+        );
     }
 }
 
@@ -202,6 +245,19 @@ fn worked_lists() {
         assert_eq!((left.0, left.1, left.2), wanted, "{}", fixed.name);
         if left.0 == 0 {
             assert_eq!(&left.3[..left.1], journal, "{}", fixed.name);
+        }
+    }
+    runs.trial.finish();
+}
+
+/// Each worked list with too little room, so that a 13 comes before its refusal, at the same record or not at all.
+#[test]
+fn worked_lists_in_every_room() {
+    let mut runs = Runs::new("worked lists in every room");
+    for fixed in fixed::all() {
+        let most = fixed.journal.len() + 1;
+        for room in (0..=most).flat_map(|blocks| [blocks * BLOCK, blocks * BLOCK + BLOCK - 1]) {
+            runs.give(&fixed.list, room);
         }
     }
     runs.trial.finish();
@@ -283,4 +339,5 @@ fn the_most_blocks() {
     let left = library(&list, room);
     assert_eq!((left.0, left.1, left.2), (13, WRITTEN, place));
     assert!(left.3 == lent(room), "a refused list leaves all bytes");
+    assert!(left == model(&list, room), "the model refuses it too");
 }
