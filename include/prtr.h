@@ -130,8 +130,8 @@ size_t prtr_filing(const uint8_t *journal, size_t length, uint8_t *out, size_t r
  * S a set-up block: byte 0 its kind, 1 or 2, byte 1 its count, then its body
  *   of 500 bytes. A kind or count that is missing is 0.
  * P a post.
- * E ends the block that is begun before it has ten posts; where none is begun
- *   it does nothing. Bytes of the record are passed over.
+ * E ends the block of posts that is begun, though it hasn't ten; where none is
+ *   begun it does nothing. Bytes of the record are passed over.
  *
  * The last block is ended after the last record. Block numbers, counts and
  * check sums are put in. The writer keeps no book, so that a journal it writes

@@ -40,7 +40,7 @@ mod c {
     }
 }
 
-/// What [`write`] answers for a record that is cut short or has another tag.
+/// What [`write()`] answers for a record that is cut short or has another tag.
 pub const MALFORMED: u8 = 255;
 
 /// 0 and the counted content, or a decline and the cell as before.
