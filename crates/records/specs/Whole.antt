@@ -1,0 +1,52 @@
+-- What a new writer over a lent buffer makes of a list of records.
+use Prim.Native.Nat.{ℕ, suc}
+use mathlib.Core.List.{List, [], _∷_}
+use Rattle.amounts.specs.Decline.{Answer, taken, declined}
+use Rattle.writer.specs.Page.{Page, freshPage, ended}
+use Rattle.writer.specs.Calls.{answerTo}
+use Rattle.records.specs.Records.{Recorded, call, malformed, recordsIn}
+use Rattle.records.specs.declared.whole.Stop.{Stop}
+use Rattle.records.specs.declared.whole.Stop.the-variants.{At, Nowhere}
+use Rattle.records.specs.declared.whole.WriteEnd.{WriteEnd}
+use Rattle.records.specs.declared.whole.WriteEnd.the-variants.{Written, Stopped}
+
+-- the number that stands for a malformed record; no decline has it
+abbrev pub malformedNumber : ℕ
+malformedNumber = 255
+
+abbrev pub recordOn : Page → Recorded → Answer Page
+recordOn p (call c) = answerTo p c
+recordOn p malformed = declined malformedNumber
+
+-- the page after the last record and an end, or the first record that is declined or malformed: its place from 0, and the number
+pub data Outcome : Type 0 where
+  whole : Page → Outcome
+  stopped : ℕ → ℕ → Outcome
+
+abbrev pub onward : Answer Page → ℕ → (Page → Outcome) → Outcome
+onward (taken q) place next = next q
+onward (declined n) place next = stopped place n
+
+unfoldable pub writeAll : Page → ℕ → List Recorded → Outcome
+unfolding ended
+writeAll p place [] = whole (ended p)
+writeAll p place (r ∷ rest) = onward (recordOn p r) place (λ q. writeAll q (suc place) rest)
+
+-- the records of bytes, written into a lent buffer
+abbrev pub writtenIn : List ℕ → List ℕ → Outcome
+writtenIn lent s = writeAll (freshPage lent) 0 (recordsIn s)
+
+-- ---- what the code returns for an outcome, and what it leaves in the buffer
+
+abbrev pub endOf : Outcome → WriteEnd
+endOf (whole p) = Written (p .filled)
+endOf (stopped place n) = Stopped n place
+
+-- a stop leaves the buffer as it was lent
+abbrev pub leftIn : List ℕ → Outcome → List ℕ
+leftIn lent (whole p) = p .bytes
+leftIn lent (stopped place n) = lent
+
+abbrev pub stopOf : Outcome → Stop
+stopOf (whole p) = Nowhere
+stopOf (stopped place n) = At n place

@@ -1,0 +1,31 @@
+// The records of standard input, one by one, into a lent buffer.
+ghost use lib.ListN.{length};
+ghost use Rattle.write.specs.Turn.{Kept};
+use crate::turn;
+use crate::turn::Turn;
+use streams::input;
+use streams::record;
+use writer::page;
+
+// Up to the end of the input or to a malformed record, or to a read that failed.
+pub(crate) fn read_records(buffer: &mut [u8]) -> Turn
+    ensures { λ r. ⌜ Kept (now (buffer .entry)) (now (buffer .exit)) r ⌝ }
+{
+    let mut space = io::large_buffer();
+    let mut source = input::start();
+    let mut filled: usize = 0;
+    let mut draft = page::fresh();
+    let mut place: u64 = 0;
+    loop {
+        let found = record::next(source, &mut space);
+        let record = found.record;
+        let turn = turn::answer(buffer, filled, draft, place, record, &space);
+        if !turn.is_open {
+            return turn;
+        }
+        filled = turn.filled;
+        draft = turn.draft;
+        source = found.input;
+        place += 1;
+    }
+}

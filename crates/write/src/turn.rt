@@ -1,0 +1,92 @@
+// What becomes of a record that was read, and the line on standard error of one that isn't taken.
+ghost use mathlib.Core.Path.{_≡_};
+ghost use lib.ListN.{length};
+ghost use Rattle.streams.specs.Record.{Within, isWhole};
+ghost use Rattle.writer.specs.Page.{pageOf, Sound};
+ghost use Rattle.write.specs.Turn.{closedTurn, Turned, Told};
+use amounts::decline::Decline;
+use layout::verdict::Verdict;
+use libc::STDERR_FILENO;
+use records::call;
+use records::record::MALFORMED;
+use streams::record::Record;
+use writer::draft::Draft;
+use writer::page::Taken;
+
+// The page's filled length and block being filled after a record, whether another may follow, and whether the input could be read.
+pub(crate) struct Turn {
+    pub(crate) filled: usize,
+    pub(crate) draft: Draft,
+    pub(crate) is_open: bool,
+    pub(crate) is_read: bool,
+}
+
+// Tells why a record isn't taken. Whether another may follow: behind a malformed one none.
+fn tell(place: u64, d: Decline) -> bool {
+    io::write_all(STDERR_FILENO, b"record ");
+    io::print_decimal(STDERR_FILENO, place);
+    let malformed = MALFORMED;
+    if d.number == malformed.number {
+        io::write_all(STDERR_FILENO, b" malformed\n");
+        return false;
+    }
+    io::write_all(STDERR_FILENO, b" ");
+    io::print_decimal(STDERR_FILENO, d.number as u64);
+    io::write_all(STDERR_FILENO, b"\n");
+    true
+}
+
+fn told(place: u64, taken: Taken) -> Turn
+    ensures { λ t. ⌜ Told taken t ⌝ }
+{
+    let draft = taken.draft;
+    let v = taken.verdict;
+    let is_open = match v {
+        Verdict::Accepted => true,
+        Verdict::Declined(d) => tell(place, d),
+    };
+    Turn {
+        filled: taken.filled,
+        draft,
+        is_open,
+        is_read: true,
+    }
+}
+
+fn closed(filled: usize, draft: Draft, read: bool) -> Turn
+    ensures { λ t. ⌜ t ≡ closedTurn filled draft read ⌝ }
+{
+    Turn {
+        filled,
+        draft,
+        is_open: false,
+        is_read: read,
+    }
+}
+
+// A whole record stands in the space.
+pub(crate) fn answer(
+    buffer: &mut [u8],
+    filled: usize,
+    d: Draft,
+    place: u64,
+    r: Record,
+    space: &[u8],
+) -> Turn
+    requires { ⌜ Sound (pageOf (now buffer) filled d) ⌝ }
+    requires { ⌜ Within (length (now space)) r ⌝ }
+    ensures { λ t. ⌜ Turned (now (buffer .entry)) (now (buffer .exit)) r t ⌝ }
+{
+    match r {
+        Record::Whole(tag, size) => {
+            let taken = call::take_record(buffer, filled, d, tag, &space[..size]);
+            told(place, taken)
+        }
+        Record::Malformed => {
+            tell(place, MALFORMED);
+            closed(filled, d, true)
+        }
+        Record::End => closed(filled, d, true),
+        Record::Failed => closed(filled, d, false),
+    }
+}
