@@ -9,7 +9,8 @@
  * Every function ends, keeps nothing between calls and may be called from
  * several threads at once. It answers for every number and every byte it is
  * given; what is outside the limits is declined by a number, PRTR_LAYOUT and
- * so on, and then nothing that a pointer names is altered.
+ * so on, and then nothing that a pointer names is altered, but for the place
+ * that prtr_write tells.
  *
  * What a host owes: each pointer is valid, aligned and not null for the whole
  * call, also where its length is 0, and what two pointers of one call name
@@ -26,9 +27,11 @@ extern "C" {
 #endif
 
 /*
- * Why a call is declined, in checking order. The status of a calculation, any
- * function but prtr_filing, is 0 or one of 6 to 9; 1 to 11 stand in the
- * "refused" line of prtr_filing; 12 comes from no function here.
+ * Why a call is declined, in checking order. The status of a calculation
+ * (prtr_counted, prtr_split, prtr_due, prtr_loss) is 0 or one of 6 to 9; that
+ * of prtr_write is 0, 4, 6, 7, 13 or PRTR_MALFORMED; 1 to 11 stand in the
+ * "refused" line of prtr_filing; 12 comes from no function here. prtr_step and
+ * prtr_figure decline nothing.
  */
 #define PRTR_NOT_A_BLOCK 1   /* a block isn't 512 bytes or lacks "PRTR" */
 #define PRTR_CHECK_SUM 2     /* a check sum differs */
@@ -42,6 +45,10 @@ extern "C" {
 #define PRTR_FULL 10         /* 4,000 posts are accepted and this isn't the close */
 #define PRTR_SHORT 11        /* a store or holding is less than what leaves it */
 #define PRTR_NO_SUBSTANCE 12 /* a report names a substance that the book hasn't */
+#define PRTR_NO_ROOM 13      /* a block that begins finds fewer than 512 bytes left, or 65,536 blocks written */
+
+/* No decline: a record of prtr_write is cut short or has another tag than S, P and E. */
+#define PRTR_MALFORMED 255
 
 /* The room that prtr_filing asks for, in bytes; no text is longer. */
 #define PRTR_ROOM 1336
@@ -114,6 +121,34 @@ uint8_t prtr_loss(uint8_t form, uint16_t number, uint64_t w, uint64_t u,
  * however short the text would have been. There is no byte 0 at the end.
  */
 size_t prtr_filing(const uint8_t *journal, size_t length, uint8_t *out, size_t room);
+
+/*
+ * Writes a journal: its set-up blocks as they are given, and its posts ten to
+ * a block. records is a row of records, each a tag of one byte, a length in 16
+ * bits, little-endian, and that many bytes:
+ *
+ * S a set-up block: byte 0 its kind, 1 or 2, byte 1 its count, then its body
+ *   of 500 bytes. A kind or count that is missing is 0.
+ * P a post.
+ * E ends the block of posts that is begun, though it hasn't ten; where none is
+ *   begun it does nothing. Bytes of the record are passed over.
+ *
+ * The last block is ended after the last record. Block numbers, counts and
+ * check sums are put in. The writer keeps no book, so that a journal it writes
+ * may yet be refused: prtr_filing tells.
+ *
+ * Answers 0, puts the journal at the start of journal and sets *written to its
+ * length, 512 for each block; the bytes behind it, and *place, are as before.
+ * Else answers for the first record that isn't taken and sets *place to that
+ * record's place, counted from 0; *written and all of journal are as before.
+ * PRTR_MALFORMED is for a record that is cut short or has another tag. A
+ * set-up block is declined by the first of: PRTR_LAYOUT for another kind,
+ * PRTR_OUT_OF_TURN, PRTR_LAYOUT, PRTR_NO_ROOM; a post by the first of
+ * PRTR_OUT_OF_TURN, PRTR_LAYOUT, PRTR_RANGE, PRTR_NO_ROOM. The last is asked
+ * only of what begins a block.
+ */
+uint8_t prtr_write(const uint8_t *records, size_t length, uint8_t *journal,
+                   size_t room, size_t *written, size_t *place);
 
 #ifdef __cplusplus
 }

@@ -56,7 +56,7 @@ short = 11
 abbrev pub noSubstance : ℕ
 noSubstance = 12
 
--- 13, a set-up block or a post that begins a block finds fewer than 512 bytes left or 65,536 blocks written
+-- 13: a set-up block or a post that begins a block finds fewer than 512 bytes left or 65,536 blocks written
 abbrev pub noRoom : ℕ
 noRoom = 13
 

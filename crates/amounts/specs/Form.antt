@@ -6,7 +6,7 @@ use lib.Dec.{eqb}
 use lib.Ieee.{Float}
 use Rattle.amounts.specs.Decline as decline
 use Rattle.amounts.specs.Decline.{Answer, taken, declined, check, checked, isTaken, layout}
-use Rattle.amounts.specs.Pattern.{_to_, inRange}
+use Rattle.amounts.specs.Pattern.{_to_, inRange, Upward}
 use Rattle.amounts.specs.declared.form.Ranges.{Ranges}
 use Rattle.amounts.specs.declared.form.Inputs.{Inputs}
 use Rattle.amounts.specs.declared.form.InputsRead.{InputsRead}
@@ -66,3 +66,7 @@ answer (Declined d) = declined (d .number)
 abbrev pub inputsAnswer : InputsRead → Answer Inputs
 inputsAnswer (read.Values x) = taken x
 inputsAnswer (read.Declined d) = declined (d .number)
+
+-- each of four ranges starts at 0 or above and has an end
+abbrev pub AllUpward : Ranges → Type 0
+AllUpward r = Upward (r .w) × (Upward (r .u) × (Upward (r .p) × Upward (r .q)))

@@ -66,19 +66,24 @@ const ROWS: [Entry; 5] = [
     },
 ];
 
-// The row of a number. All rows are gone through, the first last, so that of two with the number the first would stand.
+// The row of a number. All rows are gone through, the first last, so that of two with the number the first would stand. Its place is kept and not the
+// row, so that no jump hangs on which row it is.
 pub fn row_of(number: u16) -> Found
     ensures { λ r. ⌜ answer r ≡ rowOf number ⌝ }
 {
-    let mut found = NOT_FOUND;
+    let mut place = 5usize;
     let mut i = 5usize;
     while i > 0 {
         i -= 1;
         let e = ROWS[i];
         if e.number == number {
-            let row = e.row;
-            found = Found { known: KNOWN, row };
+            place = i;
         }
     }
-    found
+    if place >= 5 {
+        return NOT_FOUND;
+    }
+    let e = ROWS[place];
+    let row = e.row;
+    Found { known: KNOWN, row }
 }

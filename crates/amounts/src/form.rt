@@ -1,7 +1,7 @@
 // The three forms of a vapour loss, and the ranges of their inputs.
 ghost use mathlib.Core.Path.{_≡_};
 ghost use Rattle.amounts.specs.Binary64.{valueOf};
-ghost use Rattle.amounts.specs.Form.{inputsOf, formOf, inputsAnswer, answer};
+ghost use Rattle.amounts.specs.Form.{inputsOf, formOf, inputsAnswer, answer, AllUpward};
 use crate::decline;
 use crate::decline::Decline;
 use crate::pattern;
@@ -111,18 +111,19 @@ const STATION: Ranges = Ranges {
 
 // Four floats from their bit patterns, each in its range.
 fn read_inputs(ranges: Ranges, w: u64, u: u64, p: u64, q: u64) -> InputsRead
+    requires { ⌜ AllUpward ranges ⌝ }
     ensures { λ r. ⌜ inputsAnswer r ≡ inputsOf ranges (valueOf w) (valueOf u) (valueOf p) (valueOf q) ⌝ }
 {
-    let FloatRead::Value(wx) = pattern::read_float(w, ranges.w) else {
+    let FloatRead::Value(wx) = pattern::read_upward(w, ranges.w) else {
         return InputsRead::Declined(decline::RANGE);
     };
-    let FloatRead::Value(ux) = pattern::read_float(u, ranges.u) else {
+    let FloatRead::Value(ux) = pattern::read_upward(u, ranges.u) else {
         return InputsRead::Declined(decline::RANGE);
     };
-    let FloatRead::Value(px) = pattern::read_float(p, ranges.p) else {
+    let FloatRead::Value(px) = pattern::read_upward(p, ranges.p) else {
         return InputsRead::Declined(decline::RANGE);
     };
-    let FloatRead::Value(qx) = pattern::read_float(q, ranges.q) else {
+    let FloatRead::Value(qx) = pattern::read_upward(q, ranges.q) else {
         return InputsRead::Declined(decline::RANGE);
     };
     InputsRead::Values(Inputs {

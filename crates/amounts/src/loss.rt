@@ -130,6 +130,13 @@ fn row_for(form: u8, number: u16) -> Found
     coefficient::row_of(number)
 }
 
+// The loss of a form's number and four bit patterns, over the row of a management number.
+pub fn loss_by_number(form: u8, number: u16, w: u64, u: u64, p: u64, q: u64) -> Loss
+    ensures { λ r. ⌜ answer r ≡ lossOver form (coefficients.rowOf number) (valueOf w) (valueOf u) (valueOf p) (valueOf q) ⌝ }
+{
+    loss_over(form, row_for(form, number), w, u, p, q)
+}
+
 // The loss called alone: a form's number, a management number and four bit patterns.
 pub fn vapour_loss(form: u8, number: u16, w: u64, u: u64, p: u64, q: u64) -> Loss
     ensures { λ r. ⌜ answer r ≡ vapourOf form number (valueOf w) (valueOf u) (valueOf p) (valueOf q) ⌝ }
@@ -137,5 +144,5 @@ pub fn vapour_loss(form: u8, number: u16, w: u64, u: u64, p: u64, q: u64) -> Los
     if number < 1 {
         return Loss::Declined(decline::LAYOUT);
     }
-    loss_over(form, row_for(form, number), w, u, p, q)
+    loss_by_number(form, number, w, u, p, q)
 }

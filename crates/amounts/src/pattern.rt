@@ -1,7 +1,7 @@
 // Floats from bit patterns that nobody vouches for.
 ghost use mathlib.Core.Path.{_≡_};
 ghost use Rattle.amounts.specs.Binary64.{valueOf};
-ghost use Rattle.amounts.specs.Pattern.{_to_, inRange, readingOf, answer};
+ghost use Rattle.amounts.specs.Pattern.{_to_, inRange, readingOf, answer, Upward};
 use crate::decline;
 use crate::decline::Decline;
 
@@ -29,6 +29,22 @@ pub fn read_float(bits: u64, range: Range) -> FloatRead
         if x <= range.high {
             return FloatRead::Value(x);
         }
+    }
+    FloatRead::Declined(decline::RANGE)
+}
+
+// The value of a pattern in a range that starts at 0 or above and has an end: a float is at most the end just where its pattern, without the sign, is at most the end's.
+pub(crate) fn read_upward(bits: u64, range: Range) -> FloatRead
+    requires { ⌜ Upward range ⌝ }
+    ensures { λ r. ⌜ answer r ≡ readingOf range (valueOf bits) ⌝ }
+{
+    let most = f64::to_bits(range.high);
+    if bits % 0x8000_0000_0000_0000 > most {
+        return FloatRead::Declined(decline::RANGE);
+    }
+    let x = f64::from_bits(bits);
+    if range.low <= x {
+        return FloatRead::Value(x);
     }
     FloatRead::Declined(decline::RANGE)
 }

@@ -25,9 +25,9 @@ abbrev pub allZero : List ℕ → Bool
 allZero s = allTo (length s) (λ i. eqb (getD s i 0) 0)
 
 -- n bytes that store a number, the lowest first
-unfoldable pub bytesOf : ℕ → ℕ → List ℕ
-bytesOf zero x = []
-bytesOf (suc n) x = x % 256 ∷ bytesOf n (x / 256)
+unfoldable pub littleEndian : ℕ → ℕ → List ℕ
+littleEndian zero x = []
+littleEndian (suc n) x = x % 256 ∷ littleEndian n (x / 256)
 
 -- bytes with zeros behind them, n in all
 abbrev pub padded : ℕ → List ℕ → List ℕ

@@ -6,7 +6,7 @@ use lib.Dec.{eqb}
 use lib.ListN.{length, getD, take, drop}
 use Rattle.amounts.specs.Decline as number
 use Rattle.amounts.specs.Decline.{Check, check}
-use Rattle.layout.specs.Bytes.{le, part, bytesOf}
+use Rattle.layout.specs.Bytes.{le, part, littleEndian}
 use Rattle.layout.specs.Each.{sumTo}
 use Rattle.layout.specs.Setup.{within}
 use Rattle.layout.specs.declared.frame.CheckSums.{CheckSums}
@@ -51,14 +51,14 @@ frameChecks blocks s =
 
 -- "0–3 "PRTR" in ASCII; 4 kind; 5 count; 6–7 blocks accepted so far"
 abbrev pub headOf : ℕ → ℕ → ℕ → List ℕ
-headOf kind count number = 80 ∷ 82 ∷ 84 ∷ 82 ∷ kind ∷ count ∷ bytesOf 2 number
+headOf kind count number = 80 ∷ 82 ∷ 84 ∷ 82 ∷ kind ∷ count ∷ littleEndian 2 number
 
 -- bytes with their check sums behind them
 unfoldable pub summed : List ℕ → List ℕ
-unfolding bytesOf plainSum weightedSum
-summed s = s ++ (bytesOf 2 (plainSum s) ++ bytesOf 2 (weightedSum s))
+unfolding littleEndian plainSum weightedSum
+summed s = s ++ (littleEndian 2 (plainSum s) ++ littleEndian 2 (weightedSum s))
 
 -- the block of a kind, a count, a number and a body of 500 bytes
 unfoldable pub blockOf : ℕ → ℕ → ℕ → List ℕ → List ℕ
-unfolding bytesOf summed
+unfolding littleEndian summed
 blockOf kind count number body = summed (headOf kind count number ++ body)

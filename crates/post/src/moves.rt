@@ -15,7 +15,6 @@ use crate::kind;
 use crate::kind::Does;
 use crate::kind::KindRead;
 use crate::kind::Measure;
-use amounts::coefficient;
 use amounts::decline;
 use amounts::decline::Decline;
 use amounts::loss;
@@ -113,8 +112,8 @@ fn measure(m: Measure, numbers: &[u16], p: Post) -> Loss
         Measure::Quantity => stated(p, p.quantity),
         Measure::Content => stated(p, p.quantity * (p.content as u64)),
         Measure::Loss => {
-            let found = coefficient::row_of(number_at(numbers, p.substance));
-            loss::loss_over(p.material, found, p.w, p.u, p.p, p.q)
+            let number = number_at(numbers, p.substance);
+            loss::loss_by_number(p.material, number, p.w, p.u, p.p, p.q)
         }
     }
 }

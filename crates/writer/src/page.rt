@@ -15,6 +15,8 @@ use crate::tally;
 use crate::tally::Tally;
 use layout::verdict::Verdict;
 
+const BLOCK_SIZE: usize = 512;
+
 // What a call answers, and the filled length and the block being filled after it.
 pub struct Taken {
     pub verdict: Verdict,
@@ -44,7 +46,7 @@ fn put_block(
 {
     let whole = frame::framed(block, kind, count, number as u16);
     frame::put(buffer, filled, &whole);
-    filled + 512
+    filled + BLOCK_SIZE
 }
 
 // A set-up block of any kind, count and body.

@@ -11,6 +11,23 @@ pub(crate) const SUMS: usize = 508;
 
 pub(crate) type Block = [u8; SIZE];
 
+/// The bytes of a body.
+pub(crate) const BODY_SIZE: usize = SUMS - BODY;
+
+/// A block with its check sums; what its body leaves is zero.
+pub(crate) fn framed(kind: u8, count: u8, number: u16, body: &[u8]) -> Block {
+    let mut block = [0; SIZE];
+    block[..4].copy_from_slice(b"PRTR");
+    block[4] = kind;
+    block[5] = count;
+    block[6..8].copy_from_slice(&number.to_le_bytes());
+    block[BODY..BODY + body.len()].copy_from_slice(body);
+    let (plain, weighted) = sums(&block);
+    block[508..510].copy_from_slice(&(plain as u16).to_le_bytes());
+    block[510..].copy_from_slice(&(weighted as u16).to_le_bytes());
+    block
+}
+
 /// Passes the bytes of a block through declines 1 and 2.
 pub(crate) fn open(bytes: &[u8]) -> Result<&Block, u8> {
     let block: &Block = bytes.try_into().map_err(|_| NO_BLOCK)?;

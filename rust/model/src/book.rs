@@ -1,23 +1,20 @@
 //! The book: set up by blocks of kinds 1 and 2, then grown by posts, in place.
 
 use crate::block::{self, u16_at, zero_from, Block, BODY};
-use crate::decline::{CLOSED, FULL, LAYOUT, NOT_NEXT, SHORT, TURN};
+use crate::decline::{CLOSED, FULL, LAYOUT, NOT_NEXT, SHORT};
 use crate::post::{self, Exit, Move, Pair};
-use crate::setup::{Plan, Stage, MATERIALS, STAGES, SUBSTANCES};
+use crate::setup::{SetUp, MATERIALS, STAGES, SUBSTANCES};
 
 /// "4,000 posts are accepted and this isn't the close."
 const MOST_POSTS: u32 = 4_000;
 /// "Count: posts, 1–10."
-const POSTS_IN_BLOCK: usize = 10;
+pub(crate) const POSTS_IN_BLOCK: usize = 10;
 
 /// One site's book for one year. No sum can overflow: each of at most 4,000 posts moves at most
 /// 2×10^15 micrograms of a substance.
 #[derive(Debug, Clone, Default, PartialEq, Eq)]
 pub struct Book {
-    pub(crate) plan: Plan,
-    pub(crate) stages: [Stage; STAGES],
-    /// Stages described so far.
-    described: usize,
+    pub(crate) set_up: SetUp,
     blocks: u16,
     pub(crate) posts: u32,
     closed: bool,
@@ -53,7 +50,7 @@ impl Book {
 
     /// "The book has the substances of the accepted kind 1 block, and none before it."
     pub fn substances(&self) -> usize {
-        self.plan.substances
+        self.set_up.plan.substances
     }
 
     /// Blocks accepted so far. It stays small: nine of set-up, and a post at least in each other.
@@ -63,7 +60,7 @@ impl Book {
 
     /// "A single post is tried from decline 4 on and doesn't alter the block number."
     pub fn post(&mut self, bytes: &[u8]) -> Result<(), u8> {
-        self.ready()?;
+        self.set_up.ready()?;
         self.take(bytes).map(drop)
     }
 
@@ -75,38 +72,11 @@ impl Book {
             return Err(NOT_NEXT);
         }
         match kind {
-            1 => self.set_up(block)?,
-            2 => self.describe(block)?,
+            1 | 2 => self.set_up.take(block)?,
             _ => self.take_posts(block)?,
         }
         self.blocks += 1;
         Ok(())
-    }
-
-    /// "Kind 1, first, once."
-    fn set_up(&mut self, block: &Block) -> Result<(), u8> {
-        if self.plan.substances > 0 {
-            return Err(TURN);
-        }
-        self.plan = Plan::read(block)?;
-        Ok(())
-    }
-
-    /// "Kind 2, once per stage in order. Count: the stage."
-    fn describe(&mut self, block: &Block) -> Result<(), u8> {
-        let next = self.described;
-        if next == self.plan.stages || usize::from(block[5]) != next {
-            return Err(TURN);
-        }
-        self.stages[next] = Stage::read(block, self.plan.substances)?;
-        self.described += 1;
-        Ok(())
-    }
-
-    /// Decline 4 of a post or a block of posts: "before the last stage is described".
-    fn ready(&self) -> Result<(), u8> {
-        let ready = self.plan.stages > 0 && self.described == self.plan.stages;
-        ready.then_some(()).ok_or(TURN)
     }
 
     /// Decline 5.
@@ -117,7 +87,7 @@ impl Book {
     /// "A block is taken whole or not at all." "Its posts are tried in turn, each from 5 on the
     /// book the earlier ones left, and the first decline is the block's."
     fn take_posts(&mut self, block: &Block) -> Result<(), u8> {
-        self.ready()?;
+        self.set_up.ready()?;
         self.open()?;
         let count = usize::from(block[5]);
         if !(1..=POSTS_IN_BLOCK).contains(&count) || !zero_from(block, BODY + post::SIZE * count) {
@@ -143,7 +113,7 @@ impl Book {
     /// Tries one post from decline 5 on; a post that is taken is returned, so it can be undone.
     fn take(&mut self, bytes: &[u8]) -> Result<Move, u8> {
         self.open()?;
-        let this = Move::read(bytes, &self.plan)?;
+        let this = Move::read(bytes, &self.set_up.plan)?;
         if self.posts >= MOST_POSTS && this != Move::Close {
             return Err(FULL);
         }
@@ -211,7 +181,8 @@ impl Book {
     /// "The stage's holding of each substance grows by g times counted content", and handled with
     /// it: `change` is given each sum and the counted content.
     fn issue(&mut self, material: u8, stage: u8, change: impl Fn(&mut u64, u64)) {
-        let contents = &self.plan.counted[usize::from(material)][..self.plan.substances];
+        let plan = &self.set_up.plan;
+        let contents = &plan.counted[usize::from(material)][..plan.substances];
         let accounts = &mut self.accounts[usize::from(stage)];
         for ((ppm, account), handled) in contents.iter().zip(accounts).zip(&mut self.handled) {
             change(&mut account.held, u64::from(*ppm));

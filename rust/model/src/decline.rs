@@ -25,3 +25,6 @@ pub(crate) const FULL: u8 = 10;
 pub(crate) const SHORT: u8 = 11;
 /// "A report names a substance that the book hasn't."
 pub(crate) const NO_SUBSTANCE: u8 = 12;
+/// Document 02 (a): "a set-up block or a post that begins a block finds fewer than 512 bytes left
+/// or 65,536 blocks written".
+pub(crate) const NO_ROOM: u8 = 13;

@@ -1,9 +1,10 @@
-//! Document 01 in plain Rust: one site's book for one year, from posts to the PRTR return.
+//! Document 01 in plain Rust: one site's book for one year, from posts to the PRTR return; and the
+//! writer of journals of document 02 (a).
 //!
-//! This is an independent model. It was written from the paper and its readings alone, so that a
+//! This is an independent model. It was written from the papers and their readings alone, so that a
 //! slip shared with another implementation is unlikely. The book is mutable and updated in place.
 //!
-//! Quotations in the comments are the paper's own sentences.
+//! Quotations in the comments are the papers' own sentences.
 
 mod amounts;
 mod block;
@@ -14,9 +15,11 @@ mod loss;
 mod post;
 mod report;
 mod setup;
+mod writer;
 
 pub use amounts::{counted, due, figure, split, step, Parts};
 pub use book::Book;
 pub use filing::filing;
 pub use loss::loss;
 pub use report::Report;
+pub use writer::Writer;

@@ -61,6 +61,11 @@ pub fn loss(form: u8, number: u16, w: u64, u: u64, p: u64, q: u64) -> Result<u64
     if !in_range(form, &floats) {
         return Err(FLOAT);
     }
+    loss_in_range(form, number, floats)
+}
+
+/// Declines 8 and 9 of a loss whose floats are in the ranges of its form.
+pub(crate) fn loss_in_range(form: u8, number: u16, floats: [f64; 4]) -> Result<u64, u8> {
     let kg = match form {
         1 => floating_roof(row(number)?, floats),
         2 => filling(row(number)?, floats),
@@ -77,8 +82,9 @@ pub(crate) fn is_form(form: u8) -> bool {
     (1..=3).contains(&form)
 }
 
-/// No comparison holds of a NaN and no range reaches an infinity, so both fall outside.
-fn in_range(form: u8, floats: &[f64; 4]) -> bool {
+/// Whether the floats are in the ranges of a form that is one of the three. No comparison holds of
+/// a NaN and no range reaches an infinity, so both fall outside.
+pub(crate) fn in_range(form: u8, floats: &[f64; 4]) -> bool {
     let ranges = &RANGES[usize::from(form) - 1];
     ranges
         .iter()

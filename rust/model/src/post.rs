@@ -3,7 +3,7 @@
 use crate::amounts::WHOLE;
 use crate::block::{u32_at, u64_at};
 use crate::decline::{FLOAT, LAYOUT};
-use crate::loss::{is_form, loss};
+use crate::loss::{in_range, is_form, loss_in_range};
 use crate::setup::Plan;
 
 /// "A post is 48 bytes."
@@ -75,18 +75,25 @@ struct Fields {
 impl Move {
     /// Passes a post through declines 6 to 9.
     pub(crate) fn read(bytes: &[u8], plan: &Plan) -> Result<Move, u8> {
+        Fields::passed(bytes, plan)?.meaning(plan)
+    }
+}
+
+/// Passes a post through declines 6 and 7, which ask nothing of a book but its plan.
+pub(crate) fn check(bytes: &[u8], plan: &Plan) -> Result<(), u8> {
+    Fields::passed(bytes, plan).map(drop)
+}
+
+impl Fields {
+    /// The fields of a post that passes declines 6 and 7.
+    fn passed(bytes: &[u8], plan: &Plan) -> Result<Fields, u8> {
         let fields = Fields::read(bytes)?;
         if !fields.laid_out(plan) {
             return Err(LAYOUT);
         }
-        if fields.kind != 12 && !fields.floats_zero() {
-            return Err(FLOAT);
-        }
-        fields.meaning(plan)
+        fields.floats_fit().then_some(fields).ok_or(FLOAT)
     }
-}
 
-impl Fields {
     fn read(bytes: &[u8]) -> Result<Fields, u8> {
         let post: &[u8; SIZE] = bytes.try_into().map_err(|_| LAYOUT)?;
         Ok(Fields {
@@ -131,13 +138,17 @@ impl Fields {
         }
     }
 
-    /// Each float is 0.0 or -0.0: nothing is left of it but, perhaps, the sign.
-    fn floats_zero(&self) -> bool {
+    /// Decline 7: the floats of a vapour are in its form's ranges, and else each is 0.0 or -0.0:
+    /// nothing is left of it but, perhaps, the sign.
+    fn floats_fit(&self) -> bool {
         let [w, u, p, q] = self.floats;
-        (w | u | p | q) << 1 == 0
+        match self.kind {
+            12 => in_range(self.material, &self.floats.map(f64::from_bits)),
+            _ => (w | u | p | q) << 1 == 0,
+        }
     }
 
-    /// What a post that is laid out does; a loss may yet be declined by 7, 8 or 9.
+    /// What a post that is laid out does; a loss may yet be declined by 8 or 9.
     fn meaning(&self, plan: &Plan) -> Result<Move, u8> {
         let (material, pair, quantity) = (self.material, self.pair, self.quantity);
         Ok(match self.kind {
@@ -171,14 +182,7 @@ impl Fields {
 
     /// "12 vapour: form, stage, substance, floats."
     fn loss(&self, plan: &Plan) -> Result<u64, u8> {
-        let [w, u, p, q] = self.floats;
-        loss(
-            self.material,
-            plan.numbers[usize::from(self.pair.substance)],
-            w,
-            u,
-            p,
-            q,
-        )
+        let number = plan.numbers[usize::from(self.pair.substance)];
+        loss_in_range(self.material, number, self.floats.map(f64::from_bits))
     }
 }

@@ -4,7 +4,7 @@ use crate::amounts::{due, figure, split, Parts};
 use crate::book::{Account, Book};
 use crate::decline::NO_SUBSTANCE;
 use crate::post::Exit;
-use crate::setup::{Rates, Stage, Treatment};
+use crate::setup::{Rates, SetUp, Stage, Treatment};
 
 /// Amounts are in micrograms, over all stages.
 #[derive(Debug, Clone, Copy, PartialEq, Eq)]
@@ -37,15 +37,16 @@ impl Book {
     /// "The report of a substance, named by its place from 0, may be had at any time and is
     /// declined by 12 alone, never for a substance that the book has."
     pub fn report(&self, place: usize) -> Result<Report, u8> {
-        if place >= self.plan.substances {
+        let SetUp { plan, stages, .. } = &self.set_up;
+        if place >= plan.substances {
             return Err(NO_SUBSTANCE);
         }
         let handled = self.handled[place];
         let mut report = Report {
             posts: self.posts,
-            number: self.plan.numbers[place],
+            number: plan.numbers[place],
             handled,
-            due: due(self.plan.classes[place], handled)?,
+            due: due(plan.classes[place], handled)?,
             store: self.store(place),
             held: 0,
             shipped: 0,
@@ -54,12 +55,7 @@ impl Book {
             headings: [0; 6],
             figures: None,
         };
-        for (stage, accounts) in self
-            .stages
-            .iter()
-            .zip(&self.accounts)
-            .take(self.plan.stages)
-        {
+        for (stage, accounts) in stages.iter().zip(&self.accounts).take(plan.stages) {
             report.add(stage, &stage.treatments[place], &accounts[place])?;
         }
         report.figures = report.due.then(|| report.headings.map(figure));
@@ -70,7 +66,7 @@ impl Book {
     fn store(&self, place: usize) -> u64 {
         self.stores
             .iter()
-            .zip(&self.plan.counted)
+            .zip(&self.set_up.plan.counted)
             .map(|(grams, row)| grams * u64::from(row[place]))
             .sum()
     }

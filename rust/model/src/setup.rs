@@ -1,8 +1,8 @@
-//! The two kinds of set-up block. Each reader makes the checks of decline 6 and nothing else.
+//! The two kinds of set-up block and their turns. Each reader makes the checks of decline 6 and nothing else.
 
 use crate::amounts::{counted, WHOLE};
 use crate::block::{u16_at, u32_at, zero_from, Block};
-use crate::decline::LAYOUT;
+use crate::decline::{LAYOUT, TURN};
 
 /// "Count: substances, 1–8."
 pub(crate) const SUBSTANCES: usize = 8;
@@ -10,6 +10,45 @@ pub(crate) const SUBSTANCES: usize = 8;
 pub(crate) const MATERIALS: usize = 12;
 /// "Stages, 1–8."
 pub(crate) const STAGES: usize = 8;
+
+/// The set-up as far as it was taken. The default is none.
+#[derive(Debug, Clone, Default, PartialEq, Eq)]
+pub(crate) struct SetUp {
+    pub(crate) plan: Plan,
+    pub(crate) stages: [Stage; STAGES],
+    /// Stages described so far.
+    described: usize,
+}
+
+impl SetUp {
+    /// Decline 4 of a set-up block: "Kind 1, first, once." "Kind 2, once per stage in order.
+    /// Count: the stage."
+    pub(crate) fn turn(&self, kind: u8, count: u8) -> Result<(), u8> {
+        let in_turn = match kind {
+            1 => self.plan.substances == 0,
+            _ => self.described < self.plan.stages && usize::from(count) == self.described,
+        };
+        in_turn.then_some(()).ok_or(TURN)
+    }
+
+    /// Declines 4 and 6 of a block of kind 1 or 2, which is then taken.
+    pub(crate) fn take(&mut self, block: &Block) -> Result<(), u8> {
+        self.turn(block[4], block[5])?;
+        if block[4] == 1 {
+            self.plan = Plan::read(block)?;
+        } else {
+            self.stages[self.described] = Stage::read(block, self.plan.substances)?;
+            self.described += 1;
+        }
+        Ok(())
+    }
+
+    /// Decline 4 of a post or a block of posts: "before the last stage is described".
+    pub(crate) fn ready(&self) -> Result<(), u8> {
+        let ready = self.plan.stages > 0 && self.described == self.plan.stages;
+        ready.then_some(()).ok_or(TURN)
+    }
+}
 
 /// A kind 1 block. The default is no set-up: no substance, no material, no stage.
 #[derive(Debug, Clone, Default, PartialEq, Eq)]

@@ -12,18 +12,18 @@ fn one_before_two_before_three() {
         declines_block(&book, &good[..length], 1);
     }
     declines_block(&book, &[&good[..], &[0]].concat(), 1);
-    let mut tagless = good.clone();
+    let mut tagless = good;
     tagless[3] = b'r';
     declines_block(&book, &tagless, 1);
     for at in 508..512 {
-        let mut unsealed = altered(good.clone(), 4, &[9]);
+        let mut unsealed = altered(good, 4, &[9]);
         unsealed[at] ^= 1;
         declines_block(&book, &unsealed, 2);
     }
     for kind in [0, 4, 255] {
-        declines_block(&book, &altered(good.clone(), 4, &[kind]), 3);
+        declines_block(&book, &altered(good, 4, &[kind]), 3);
     }
-    declines_block(&book, &altered(good.clone(), 6, &[1]), 3);
+    declines_block(&book, &altered(good, 6, &[1]), 3);
     declines_block(&book, &altered(good, 7, &[1]), 3);
 }
 
@@ -39,7 +39,7 @@ fn a_check_sum_is_a_remainder() {
         let bytes = block(9, 0, 0, &body);
         let plain = u16::from_le_bytes([bytes[508], bytes[509]]);
         if let Some(over) = plain.checked_add(65_521) {
-            let mut wrong = bytes.clone();
+            let mut wrong = bytes;
             wrong[508..510].copy_from_slice(&over.to_le_bytes());
             declines_block(&Book::new(), &bytes, 3);
             declines_block(&Book::new(), &wrong, 2);
@@ -60,7 +60,7 @@ fn set_up_comes_in_turn() {
         (Ok(()), 1, 1)
     );
     // A second kind 1 block is a 4 whatever it holds.
-    declines_block(&book, &altered(first.clone(), 6, &[1]), 4);
+    declines_block(&book, &altered(first, 6, &[1]), 4);
     declines_block(&book, &block(1, 99, 1, &[255; 500]), 4);
     // A wrong kind 2 count is always a 4 and never a 6.
     for count in [1, 2, 8, 255] {
@@ -110,7 +110,7 @@ fn the_layout_of_a_plan() {
         (507, &[1]),
     ];
     for (at, bytes) in changes {
-        declines_block(&book, &altered(good.clone(), at, bytes), 6);
+        declines_block(&book, &altered(good, at, bytes), 6);
     }
 }
 
@@ -159,7 +159,7 @@ fn the_layout_of_a_stage() {
         changes.push((at, vec![1]));
     }
     for (at, bytes) in changes {
-        declines_block(&book, &altered(good.clone(), at, &bytes), 6);
+        declines_block(&book, &altered(good, at, &bytes), 6);
     }
 }
 
@@ -170,9 +170,9 @@ fn the_layout_of_a_block_of_posts() {
         declines_block(&book, &block(3, count, 3, &[]), 6);
     }
     // Non-zero bytes behind the last post are a 6 before any post of the block is tried.
-    let behind = posts(3, &[with_bits(opening(0, 1), [1; 4])]);
+    let behind = posts(3, &[with_floats(opening(0, 1), [1; 4])]);
     declines_block(&book, &behind, 7);
-    declines_block(&book, &altered(behind.clone(), 56, &[1]), 6);
+    declines_block(&book, &altered(behind, 56, &[1]), 6);
     declines_block(&book, &altered(behind, 507, &[1]), 6);
     declines_block(
         &book,

@@ -11,31 +11,17 @@ fn prints(journal: &[u8], text: &str) {
 }
 
 /// The journal of the plant whose set-up is `blocks`, with `year` in blocks of ten.
-fn journal(blocks: Vec<Vec<u8>>, year: &[Post]) -> Vec<u8> {
-    let first = blocks.len() as u16;
-    let posted = year
-        .chunks(10)
-        .zip(first..)
-        .map(|(ten, number)| posts(number, ten));
-    blocks.into_iter().chain(posted).flatten().collect()
+fn journal(blocks: Vec<Block>, year: &[Post]) -> Vec<u8> {
+    blocks::journal(blocks, year, &blocks::tens(year.len())).concat()
 }
 
 fn xylene_year() -> Vec<Post> {
-    vec![
-        opening(0, 500_000),
-        bought(0, 2_500_000),
-        issued(0, 0, 2_700_000),
-        leaves(5, 0, 0, 450_000, 2_200_000),
-        close(),
-    ]
+    blocks::xylene::posts().to_vec()
 }
 
 #[test]
 fn the_xylene_year() {
-    prints(
-        &journal(xylene(), &xylene_year()),
-        "substance handled due air water soil land sewer offsite\n80 1215000000000 Y 230 0.0 0.0 0.0 0.0 0.0\n",
-    );
+    prints(&journal(xylene(), &xylene_year()), blocks::xylene::PRINTED);
 }
 
 /// "225 kg rounds up; 135 kg stay in store."
@@ -148,7 +134,7 @@ fn a_refused_journal_prints_one_line() {
     prints(&good[..512 * 2 + 1], "refused 2 1\n");
     prints(&[&good[..], &[0]].concat(), "refused 3 1\n");
     prints(&[&good[..], &good[..512]].concat(), "refused 3 3\n");
-    let mut summed = good.clone();
+    let mut summed = good;
     summed[512 + 510] ^= 1;
     prints(&summed, "refused 1 2\n");
     prints(

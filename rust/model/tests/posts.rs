@@ -109,11 +109,11 @@ fn an_unused_float_is_zero_of_either_sign() {
                     (1 << 63) + 1,
                 ] {
                     floats[place] = bits;
-                    declines(&book, &with_bits(post, floats), 7);
+                    declines(&book, &with_floats(post, floats), 7);
                 }
             }
             assert_eq!(
-                book.post(&with_bits(post, [1 << 63, 0, 1 << 63, 1 << 63])),
+                book.post(&with_floats(post, [1 << 63, 0, 1 << 63, 1 << 63])),
                 Ok(())
             );
         } else {
@@ -179,11 +179,11 @@ fn four_thousand_posts_and_the_close() {
     declines(&book, &opening(0, 1), 10);
     declines(&book, &leaves(5, 0, 0, 1, 1), 10);
     declines(&book, &opening(0, 0), 6);
-    declines(&book, &with_bits(opening(0, 1), [1; 4]), 7);
+    declines(&book, &with_floats(opening(0, 1), [1; 4]), 7);
     declines(&book, &vapour(1, 0, 0, [1.0, 1.0, 1.0, 0.0]), 8);
     declines(&book, &vapour(3, 0, 0, [1e9; 4]), 9);
     declines(&book, &post(13, 0, 0, 0, 0, 1), 6);
-    declines(&book, &with_bits(close(), [0, 0, 0, 1]), 7);
+    declines(&book, &with_floats(close(), [0, 0, 0, 1]), 7);
     assert_eq!(book.report(1).unwrap().store, 3_200_000_000_000_000_000);
     assert_eq!(book.post(&close()), Ok(()));
     assert_eq!(book.report(0).unwrap().posts, 4_001);

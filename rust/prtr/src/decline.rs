@@ -3,7 +3,7 @@
 use std::error::Error;
 use std::fmt;
 
-/// Why a call is declined, in document 01's checking order and with its numbers.
+/// Why a call is declined, in the papers' checking order and with their numbers.
 ///
 /// ```
 /// use prtr::Decline;
@@ -13,7 +13,7 @@ use std::fmt;
 ///     assert_eq!(Decline::from_number(decline.number()), Some(decline));
 /// }
 /// assert_eq!(Decline::from_number(0), None);
-/// assert_eq!(Decline::from_number(13), None);
+/// assert_eq!(Decline::from_number(14), None);
 /// ```
 #[derive(Clone, Copy, Debug, PartialEq, Eq, PartialOrd, Ord, Hash)]
 #[repr(u8)]
@@ -42,6 +42,8 @@ pub enum Decline {
     Short = 11,
     /// A report names a substance that the book hasn't; no function of this crate answers it.
     NoSubstance = 12,
+    /// A set-up block, or a post that begins a block, finds fewer than 512 bytes left or 65,536 blocks written.
+    NoRoom = 13,
 }
 
 // `from_number` finds a decline by its place.
@@ -55,7 +57,7 @@ const _: () = {
 
 impl Decline {
     /// Every decline, in checking order.
-    pub const ALL: [Decline; 12] = [
+    pub const ALL: [Decline; 13] = [
         Decline::NotABlock,
         Decline::CheckSum,
         Decline::NotNext,
@@ -68,20 +70,21 @@ impl Decline {
         Decline::Full,
         Decline::Short,
         Decline::NoSubstance,
+        Decline::NoRoom,
     ];
 
-    /// Document 01's number, 1 to 12.
+    /// The papers' number, 1 to 13.
     pub const fn number(self) -> u8 {
         self as u8
     }
 
-    /// The decline with this number, or `None` where document 01 has none.
+    /// The decline with this number, or `None` where the papers have none.
     pub fn from_number(number: u8) -> Option<Decline> {
         let place = number.checked_sub(1)?;
         Decline::ALL.get(usize::from(place)).copied()
     }
 
-    /// Document 01's words, cut short.
+    /// The papers' words, cut short.
     const fn words(self) -> &'static str {
         match self {
             Decline::NotABlock => "the block isn't 512 bytes or lacks its tag",
@@ -96,6 +99,7 @@ impl Decline {
             Decline::Full => "4,000 posts are accepted",
             Decline::Short => "a store or holding is less than what leaves it",
             Decline::NoSubstance => "the book hasn't this substance",
+            Decline::NoRoom => "there is no room for a block",
         }
     }
 }

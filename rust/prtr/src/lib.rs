@@ -3,8 +3,9 @@
 //! Material is in grams, content in parts per million by mass (ppm), substance in micrograms. The papers' numbers
 //! are whole; a vapour loss is worked out in `f64` and then cut to whole micrograms.
 //!
-//! The functions here answer for every input: what is outside the limits is an [`Err`] with its [`Decline`], and a
-//! refused journal one that also says which block. [`Decline::NoSubstance`] comes from none of them.
+//! The functions here answer for every input: what is outside the limits is an [`Err`] with its [`Decline`], a refused
+//! journal one that also says which block, and a journal that can't be written one that says which record.
+//! [`Decline::NoSubstance`] comes from none of them.
 //!
 //! ```
 //! use prtr::{Class, Form};
@@ -31,11 +32,15 @@ mod decline;
 mod form;
 pub mod raw;
 mod refused;
+mod unwritten;
+mod writer;
 
 pub use class::Class;
 pub use decline::Decline;
 pub use form::Form;
 pub use refused::Refused;
+pub use unwritten::{Cause, TooLong, Unwritten};
+pub use writer::{write_into, Writer};
 
 /// The bytes that [`filing_into`] must be lent: the room that `prtr_filing` asks for; no text is longer.
 pub const ROOM: usize = 1336;
@@ -65,7 +70,7 @@ fn answer<A>(status: u8, value: A) -> Result<A, Decline> {
 fn declined(number: u8) -> Decline {
     match Decline::from_number(number) {
         Some(decline) => decline,
-        None => panic!("libprtr.a answered {number}, which is no decline of document 01"),
+        None => panic!("libprtr.a answered {number}, which is no decline of the papers"),
     }
 }
 
@@ -230,55 +235,17 @@ pub fn loss_bits(form: u8, number: u16, w: u64, u: u64, p: u64, q: u64) -> Resul
 
 /// The text of the return that a journal gives, or which block was refused and why.
 ///
+/// A [`Writer`] makes a journal; its example files one.
+///
 /// ```
 /// use prtr::{Decline, Refused};
 ///
-/// /// A block of 512 bytes with its check sums.
-/// fn block(kind: u8, count: u8, number: u16, body: &[u8]) -> Vec<u8> {
-///     let mut block = [&b"PRTR"[..], &[kind, count], &number.to_le_bytes(), body].concat();
-///     block.resize(508, 0);
-///     let plain: u32 = block.iter().map(|&byte| byte as u32).sum();
-///     let placed: u32 = (1..).zip(&block).map(|(place, &byte)| place * byte as u32).sum();
-///     for sum in [plain, placed] {
-///         block.extend(((sum % 65_521) as u16).to_le_bytes());
-///     }
-///     block
-/// }
-///
-/// /// A post of the one material, stage and substance.
-/// fn post(kind: u8, content: u32, grams: u64) -> Vec<u8> {
-///     [&[kind, 0, 0, 0][..], &content.to_le_bytes(), &grams.to_le_bytes(), &[0; 32]].concat()
-/// }
-///
-/// // One material with 450,000 ppm of xylene (80, class 1).
-/// let mut site = vec![0; 410];
-/// site[0] = 1;
-/// site[1] = 1;
-/// site[2] = 80;
-/// site[18] = 1;
-/// site[26..30].copy_from_slice(&450_000u32.to_le_bytes());
-/// // Opening, bought, issued, shipped and the close.
-/// let year = [
-///     post(1, 0, 500_000),
-///     post(2, 0, 2_500_000),
-///     post(3, 0, 2_700_000),
-///     post(5, 450_000, 2_200_000),
-///     post(13, 0, 0),
-/// ];
-/// let journal = [
-///     block(1, 1, 0, &site),
-///     block(2, 0, 1, &[1, 1, 1]),
-///     block(3, 5, 2, &year.concat()),
-/// ]
-/// .concat();
-///
+/// // A journal of no blocks prints the title.
 /// let title = "substance handled due air water soil land sewer offsite\n";
-/// let xylene = "80 1215000000000 Y 230 0.0 0.0 0.0 0.0 0.0\n";
-/// assert_eq!(prtr::filing(&journal), Ok([title, xylene].concat()));
 /// assert_eq!(prtr::filing(&[]), Ok(title.to_string()));
 ///
-/// let short = Refused { block: 1, decline: Decline::NotABlock };
-/// assert_eq!(prtr::filing(&journal[..1_000]), Err(short));
+/// let short = Refused { block: 0, decline: Decline::NotABlock };
+/// assert_eq!(prtr::filing(b"no journal"), Err(short));
 /// ```
 pub fn filing(journal: &[u8]) -> Result<String, Refused> {
     let mut out = vec![0; ROOM];

@@ -29,8 +29,19 @@ mod c {
             micrograms: *mut u64,
         ) -> u8;
         pub fn prtr_filing(journal: *const u8, length: usize, out: *mut u8, room: usize) -> usize;
+        pub fn prtr_write(
+            records: *const u8,
+            length: usize,
+            journal: *mut u8,
+            room: usize,
+            written: *mut usize,
+            place: *mut usize,
+        ) -> u8;
     }
 }
+
+/// What [`write()`] answers for a record that is cut short or has another tag.
+pub const MALFORMED: u8 = 255;
 
 /// 0 and the counted content, or a decline and the cell as before.
 #[inline]
@@ -81,4 +92,21 @@ pub fn loss(form: u8, number: u16, floats: [u64; 4], micrograms: &mut u64) -> u8
 #[inline]
 pub fn filing(journal: &[u8], out: &mut [u8]) -> usize {
     unsafe { c::prtr_filing(journal.as_ptr(), journal.len(), out.as_mut_ptr(), out.len()) }
+}
+
+/// 0, the journal at the start of `journal` and its length in `written`; or the decline, or [`MALFORMED`], of the first
+/// record that isn't taken and that record's place in `place`. All else is as before.
+#[inline]
+pub fn write(records: &[u8], journal: &mut [u8], written: &mut usize, place: &mut usize) -> u8 {
+    let (length, room) = (records.len(), journal.len());
+    unsafe {
+        c::prtr_write(
+            records.as_ptr(),
+            length,
+            journal.as_mut_ptr(),
+            room,
+            written,
+            place,
+        )
+    }
 }

@@ -2,11 +2,11 @@
 //!
 //! A text shows two digits of a heading, so that a microgram too many shows only at such an edge.
 
+use blocks::{Holding, Post, Site};
+
 use crate::case::caught;
-use crate::layout::{Holding, Post};
 use crate::ledger::{exactly, MOST_MICROGRAMS};
 use crate::rng::Rng;
-use crate::site::Site;
 use crate::year::Year;
 
 /// What is due from this many micrograms, in classes 1 and 2.

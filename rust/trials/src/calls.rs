@@ -3,6 +3,7 @@
 use std::fmt::Write;
 use std::ops::AddAssign;
 
+use blocks::record;
 use model::{Book, Report};
 
 use crate::case::caught;
@@ -97,9 +98,7 @@ impl List {
         name: &str,
         ask: impl FnOnce(&mut Book) -> Result<String, u8>,
     ) {
-        self.records.push(tag);
-        self.records.extend((bytes.len() as u16).to_le_bytes());
-        self.records.extend(bytes);
+        record(&mut self.records, tag, bytes);
         let answer = match caught(|| ask(&mut self.book)) {
             Ok(Ok(fields)) => fields,
             Ok(Err(number)) => {

@@ -1,9 +1,8 @@
 //! Faults in a journal, one at a time or two at once.
 
+use blocks::{posts_block, put_sums, renumber, seal, sums, Block, Post, BLOCK, BODY, POST, SUMS};
+
 use crate::floats::{edges, within, RANGES, SPECIALS};
-use crate::layout::{
-    posts_block, put_sums, renumber, seal, sums, Block, Post, BLOCK, BODY, POST, SUMS,
-};
 use crate::ledger::{exactly, MOST_GRAMS, MOST_MICROGRAMS};
 use crate::rng::Rng;
 use crate::year::Year;

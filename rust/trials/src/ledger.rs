@@ -1,9 +1,10 @@
 //! What is in store and held, so that posts can be made which a book takes.
 
+use blocks::{Holding, Post, Site};
+
 use crate::floats::{within, RANGES};
-use crate::layout::{Holding, Post};
 use crate::rng::Rng;
-use crate::site::{Site, ROWS, WHOLE};
+use crate::site::{ROWS, WHOLE};
 
 /// The most grams of a post.
 pub const MOST_GRAMS: u64 = 2_000_000_000;

@@ -1,6 +1,7 @@
 //! Posts that come about when 4,000 are accepted.
 
-use crate::layout::Post;
+use blocks::Post;
+
 use crate::ledger::MOST_GRAMS;
 use crate::rng::Rng;
 use crate::year::Year;

@@ -1,12 +1,13 @@
 //! Lists of calls, good and faulty, with reports between them.
 
+use blocks::{block, frame, posts_block, Block, Post, BLOCK, BODY, POST};
+
 use crate::calls::List;
 use crate::damage::{damaged, fault};
-use crate::layout::{frame, posts_block, seal, Block, Post, BLOCK, BODY, POST};
 use crate::ledger::MOST_GRAMS;
 use crate::limit::{last_posts, ONE_SHORT};
 use crate::rng::Rng;
-use crate::site::{Site, WHOLE};
+use crate::site::{self, WHOLE};
 use crate::year::Year;
 
 /// The calls on a full book, of one to four posts each.
@@ -50,7 +51,7 @@ pub fn damaged_journal(rng: &mut Rng) -> List {
 
 /// A year that reaches the limit of posts, and calls behind it.
 pub fn full(rng: &mut Rng) -> List {
-    let site = Site::any(rng);
+    let site = site::any(rng);
     let year = Year::open(rng, site, ONE_SHORT);
     let mut list = List::new();
     for block in year.blocks() {
@@ -108,14 +109,14 @@ fn perhaps_faulty(rng: &mut Rng, list: &mut List, year: &Year, block: &Block) {
 }
 
 /// The block with one fault.
-fn faulty(rng: &mut Rng, block: &Block) -> Block {
+pub(crate) fn faulty(rng: &mut Rng, block: &Block) -> Block {
     let mut blocks = vec![*block];
     fault(rng, &mut blocks);
     blocks[0]
 }
 
 /// A post of the block with one fault.
-fn faulty_post(rng: &mut Rng, block: &Block) -> Vec<u8> {
+pub(crate) fn faulty_post(rng: &mut Rng, block: &Block) -> Vec<u8> {
     let at = BODY + POST * rng.place(block[5].clamp(1, 10).into());
     let mut alone = frame(3, 1, 0);
     alone[BODY..BODY + POST].copy_from_slice(&block[at..at + POST]);
@@ -140,7 +141,5 @@ fn too_much(rng: &mut Rng, year: &Year) -> Post {
 
 /// A block of any kind with nothing in its body.
 fn without_body(rng: &mut Rng, number: u16) -> Block {
-    let mut block = frame(rng.below(5) as u8, rng.below(3) as u8, number);
-    seal(&mut block);
-    block
+    block(rng.below(5) as u8, rng.below(3) as u8, number, &[])
 }

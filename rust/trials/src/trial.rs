@@ -6,10 +6,10 @@ use std::io::{self, Write};
 use std::ops::Range;
 use std::path::PathBuf;
 
+use blocks::{Block, BLOCK};
 use prtr::Refused;
 
 use crate::case;
-use crate::layout::{Block, BLOCK};
 use crate::rng::Rng;
 
 /// The seed where `PRTR_SEED` has none.
@@ -198,7 +198,7 @@ impl Trial {
 }
 
 /// Each number that was met and how often.
-pub fn declines(counts: &[u64; 13]) -> String {
+pub fn declines(counts: &[u64]) -> String {
     let met = (1..).zip(&counts[1..]).filter(|(_, &count)| count > 0);
     met.map(|(number, count): (u8, _)| format!(" {number}:{count}"))
         .collect()

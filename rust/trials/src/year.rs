@@ -1,10 +1,11 @@
 //! A whole year of a site, which a book takes.
 
+use blocks::{journal, tens, Block, Post, Site, MOST_POSTS, POST};
+
 use crate::aim;
-use crate::layout::{posts_block, Block, Post, MOST_POSTS};
 use crate::ledger::Ledger;
 use crate::rng::Rng;
-use crate::site::Site;
+use crate::site;
 
 /// A site and its posts in order.
 #[derive(Clone)]
@@ -22,7 +23,7 @@ pub struct Year {
 impl Year {
     /// A year of up to 160 posts and those that aim at a figure's edge, most of them with a close.
     pub fn any(rng: &mut Rng) -> Year {
-        let site = Site::any(rng);
+        let site = site::any(rng);
         let count = rng.size(160) as usize;
         let mut year = Year::open(rng, site, count);
         let close = !rng.once_in(4);
@@ -66,23 +67,9 @@ impl Year {
 
     /// The journal's blocks, sealed and numbered.
     pub fn blocks(&self) -> Vec<Block> {
-        let mut blocks = self.site.blocks();
-        let mut rest = &self.posts[..];
-        for &size in &self.sizes {
-            let (now, later) = rest.split_at(size);
-            blocks.push(posts_block(blocks.len() as u16, now));
-            rest = later;
-        }
-        blocks
+        let posts: Vec<[u8; POST]> = self.posts.iter().map(Post::bytes).collect();
+        journal(self.site.blocks(), &posts, &self.sizes)
     }
-}
-
-/// Full blocks and what is left.
-pub fn tens(posts: usize) -> Vec<usize> {
-    (0..posts)
-        .step_by(MOST_POSTS)
-        .map(|from| MOST_POSTS.min(posts - from))
-        .collect()
 }
 
 /// Blocks of ten, or of any size.

@@ -2,11 +2,11 @@
 
 use std::fs;
 
-use trials::layout::Post;
+use blocks::{tens, Post};
 use trials::ledger::exactly;
 use trials::site::WHOLE;
 use trials::trial::{say, text_of, Trial};
-use trials::year::{tens, Year};
+use trials::year::Year;
 
 /// A slip of the trade.
 enum Slip {

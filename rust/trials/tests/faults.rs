@@ -6,9 +6,9 @@ use std::fs::{self, File};
 use std::path::{Path, PathBuf};
 use std::process::{Command, Output, Stdio};
 
+use blocks::BLOCK;
 use trials::c;
 use trials::calls::List;
-use trials::layout::BLOCK;
 use trials::lists;
 use trials::program;
 use trials::rng::Rng;

@@ -2,12 +2,12 @@
 
 use std::path::PathBuf;
 
+use blocks::{posts_block, Block, Post, BLOCK};
 use trials::case;
 use trials::damage::damaged;
-use trials::layout::{posts_block, Block, Post, BLOCK};
 use trials::program;
 use trials::rng::Rng;
-use trials::site::Site;
+use trials::site;
 use trials::trial::{cases, say, Trial};
 use trials::year::Year;
 
@@ -141,7 +141,7 @@ fn pipes(runs: &mut Runs) {
 fn full_years(runs: &mut Runs) {
     for case in cases(3) {
         let mut rng = runs.trial.rng(5, case);
-        let site = Site::any(&mut rng);
+        let site = site::any(&mut rng);
         let mut year = Year::open(&mut rng, site, MOST);
         let next = year.ledger.entered(&mut rng);
         for last in [next, Post::CLOSE] {

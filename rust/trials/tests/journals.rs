@@ -1,9 +1,9 @@
 //! Journals of whole years, damaged ones and full ones, given to the library and to the model.
 
+use blocks::posts_block;
 use trials::damage::damaged;
-use trials::layout::posts_block;
 use trials::limit::{any_last, last_posts, ONE_SHORT};
-use trials::site::Site;
+use trials::site;
 use trials::trial::{cases, Trial};
 use trials::year::Year;
 
@@ -57,7 +57,7 @@ fn damaged_years(trial: &mut Trial) {
 fn full_years(trial: &mut Trial) {
     for case in cases(15) {
         let mut rng = trial.rng(3, case);
-        let site = Site::any(&mut rng);
+        let site = site::any(&mut rng);
         let year = Year::open(&mut rng, site, ONE_SHORT);
         for _ in 0..20 {
             let mut blocks = year.blocks();

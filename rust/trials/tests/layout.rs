@@ -2,13 +2,13 @@
 
 use std::ops::RangeInclusive;
 
-use trials::floats::{edges, RANGES, SPECIALS};
-use trials::layout::{
-    frame, posts_block, put_sums, seal, sums, Block, Post, BLOCK, BODY, MODULUS, POST, SUMS,
+use blocks::{
+    block, frame, posts_block, put_sums, seal, sums, Block, Pair, Post, Site, Stage, BLOCK, BODY,
+    MODULUS, POST, SUMS,
 };
+use trials::floats::{edges, RANGES, SPECIALS};
 use trials::ledger::{MOST_GRAMS, MOST_MICROGRAMS};
 use trials::rng::Rng;
-use trials::site::{Pair, Site, Stage};
 use trials::trial::{cases, Trial};
 
 /// How a block is broken.
@@ -448,13 +448,6 @@ fn unused_floats() {
     trial.finish();
 }
 
-/// A block of a kind with this number and nothing in its body.
-fn empty(kind: u8, count: u8, number: u16) -> Block {
-    let mut block = frame(kind, count, number);
-    seal(&mut block);
-    block
-}
-
 /// What a set-up, a stage and an empty block of posts get, after so many blocks of the journal were taken.
 const TURNS: [[u8; 3]; 6] = [
     [6, 4, 4],
@@ -473,7 +466,7 @@ fn turns() {
         for (kind, number) in [(1, 0), (2, next_stage), (3, 0)].into_iter().zip(numbers) {
             for (off, number) in [(0, number), (1, 3)] {
                 let mut blocks = journal()[..taken].to_vec();
-                blocks.push(empty(kind.0, kind.1, taken as u16 + off));
+                blocks.push(block(kind.0, kind.1, taken as u16 + off, &[]));
                 let what = format!("kind {} after {taken}", kind.0);
                 trial.expect(blocks.as_flattened(), Some((taken as u64, number)), &what);
             }

@@ -1,13 +1,12 @@
 //! The bytes that a journal's text may and may not alter, and the longest texts.
 
+use blocks::{tens, Pair, Post, Site, Stage, MOST_POSTS};
 use prtr::ROOM;
 use trials::case;
-use trials::layout::{Post, MOST_POSTS};
 use trials::ledger::{MOST_GRAMS, MOST_MICROGRAMS};
 use trials::rng::Rng;
-use trials::site::{Pair, Site, Stage};
 use trials::trial::Trial;
-use trials::year::{tens, Year};
+use trials::year::Year;
 
 /// What the lent bytes hold before a call.
 const FILL: u8 = 0xc3;

@@ -17,6 +17,7 @@ use Rattle.layout.specs.Posts.{postIn, ownChecks}
 use Rattle.layout.specs.Setup.{within}
 use Rattle.layout.specs.declared.outline.Outline.{Outline}
 use Rattle.layout.proofs.Checked as table
+use Rattle.layout.proofs.Checked.{pass-taken}
 use Rattle.layout.proofs.frame.Made.{kind-made, count-made, body-made, made-passes}
 use Rattle.post.specs.Moves.{wellFormed}
 use Rattle.writer.specs.Tally.{kindChecks, outlineAfter}

@@ -8,13 +8,13 @@ use borrow.Author.Tests.{eq-eqb}
 use lib.ListN.{length, take, drop, length-append}
 use lib.Seq.{take-at, drop-at, drop-drop}
 use Rattle.amounts.specs.Decline.{taken, checked}
-use Rattle.layout.specs.Bytes.{le, bytesOf}
+use Rattle.layout.specs.Bytes.{le, littleEndian}
 use Rattle.layout.specs.Frame.{hasTag, blockKind, countOf, bodyOf, plainSum, weightedSum, sumsOf, frameChecks, headOf, summed, blockOf}
 use Rattle.layout.specs.Setup.{within}
 
 -- two bytes that store a number tell it again, whatever stands behind them
-pub two-told : (n : ℕ) (s : List ℕ) → n < 65536 → le 2 (bytesOf 2 n ++ s) ≡ n
-unfolding le bytesOf
+pub two-told : (n : ℕ) (s : List ℕ) → n < 65536 → le 2 (littleEndian 2 n ++ s) ≡ n
+unfolding le littleEndian
 two-told n s h = omega arith
 
 pub plain-small : (s : List ℕ) → plainSum s < 65536
@@ -28,24 +28,24 @@ weighted-small s = omega arith
 module _ (s : List ℕ) (long : length s ≡ 508) where
   first-is : take 508 (summed s) ≡ s
   unfolding summed
-  first-is = take-at s (bytesOf 2 (plainSum s) ++ bytesOf 2 (weightedSum s)) 508 long
+  first-is = take-at s (littleEndian 2 (plainSum s) ++ littleEndian 2 (weightedSum s)) 508 long
 
-  last-is : drop 508 (summed s) ≡ bytesOf 2 (plainSum s) ++ bytesOf 2 (weightedSum s)
+  last-is : drop 508 (summed s) ≡ littleEndian 2 (plainSum s) ++ littleEndian 2 (weightedSum s)
   unfolding summed
-  last-is = drop-at s (bytesOf 2 (plainSum s) ++ bytesOf 2 (weightedSum s)) 508 long
+  last-is = drop-at s (littleEndian 2 (plainSum s) ++ littleEndian 2 (weightedSum s)) 508 long
 
   plain-told : le 2 (drop 508 (summed s)) ≡ sumsOf (summed s) .plain
-  plain-told = ap (le 2) last-is ∙ two-told (plainSum s) (bytesOf 2 (weightedSum s)) (plain-small s) ∙ ap plainSum (sym first-is)
+  plain-told = ap (le 2) last-is ∙ two-told (plainSum s) (littleEndian 2 (weightedSum s)) (plain-small s) ∙ ap plainSum (sym first-is)
 
   weighted-told : le 2 (drop 510 (summed s)) ≡ sumsOf (summed s) .weighted
-  unfolding bytesOf
+  unfolding littleEndian
   weighted-told =
-      ap (le 2) (sym (drop-drop 2 508 (summed s)) ∙ ap (drop 2) last-is ∙ sym (append-nil (bytesOf 2 (weightedSum s))))
+      ap (le 2) (sym (drop-drop 2 508 (summed s)) ∙ ap (drop 2) last-is ∙ sym (append-nil (littleEndian 2 (weightedSum s))))
       ∙ two-told (weightedSum s) [] (weighted-small s) ∙ ap weightedSum (sym first-is)
 
   summed-long : length (summed s) ≡ 512
-  unfolding summed bytesOf
-  summed-long = length-append s (bytesOf 2 (plainSum s) ++ bytesOf 2 (weightedSum s)) ∙ ap (λ (n : ℕ). n + 4) long
+  unfolding summed littleEndian
+  summed-long = length-append s (littleEndian 2 (plainSum s) ++ littleEndian 2 (weightedSum s)) ∙ ap (λ (n : ℕ). n + 4) long
 
 module _ (kind count number : ℕ) (body : List ℕ) where
   abbrev made : List ℕ
@@ -61,7 +61,7 @@ module _ (kind count number : ℕ) (body : List ℕ) where
 
   module _ (long : length body ≡ 500) where
     before-long : length (headOf kind count number ++ body) ≡ 508
-    unfolding bytesOf
+    unfolding littleEndian
     before-long = omega (arith, length-append (headOf kind count number) body)
 
     pub made-long : length made ≡ 512
@@ -69,7 +69,7 @@ module _ (kind count number : ℕ) (body : List ℕ) where
     made-long = summed-long (headOf kind count number ++ body) before-long
 
     pub body-made : bodyOf made ≡ body
-    unfolding blockOf summed bytesOf
+    unfolding blockOf summed littleEndian
     body-made = take-at body _ 500 long
 
     tag-made : hasTag made ≡ true
@@ -77,7 +77,7 @@ module _ (kind count number : ℕ) (body : List ℕ) where
     tag-made = refl
 
     number-made : number < 65536 → le 2 (drop 6 made) ≡ number
-    unfolding blockOf summed bytesOf
+    unfolding blockOf summed littleEndian
     number-made n = two-told number _ n
 
     plain-made : le 2 (drop 508 made) ≡ sumsOf made .plain

@@ -8,7 +8,7 @@ use borrow.Author.Tests.{le-leb, lt-leb}
 use lib.Dec.{leb}
 use lib.ListN.{length, take, drop, getD, set, length-append, length-drop, drop-of-length-le}
 use lib.Seq.{length-take-le, take-length, take-append-add, paste, paste-suc}
-use Rattle.layout.specs.Bytes.{bytesOf}
+use Rattle.layout.specs.Bytes.{littleEndian}
 use Rattle.layout.specs.Frame.{bodyOf, plainSum, weightedSum, sumsOf, headOf, summed, blockOf}
 use Rattle.layout.proofs.frame.Made.{plain-small, weighted-small}
 use Rattle.writer.specs.Frame.{placed}
@@ -58,8 +58,8 @@ module _ (block : List ℕ) (long : length block ≡ 512) (head : List ℕ) (eig
         ∙ ap₂ (λ (x y : List ℕ). x ++ (tail ++ y)) first-part (drop-of-length-le m {i = 508 + length tail} (omega (arith, same, long, four)))
         ∙ ap (λ (x : List ℕ). (head ++ bodyOf block) ++ x) (append-nil tail)
 
-sums-are : (p q w z a b : ℕ) → p ≡ a % 256 → q ≡ a / 256 → w ≡ b % 256 → z ≡ b / 256 → a < 65536 → b < 65536 → p ∷ q ∷ w ∷ z ∷ [] ≡ bytesOf 2 a ++ bytesOf 2 b
-unfolding bytesOf
+sums-are : (p q w z a b : ℕ) → p ≡ a % 256 → q ≡ a / 256 → w ≡ b % 256 → z ≡ b / 256 → a < 65536 → b < 65536 → p ∷ q ∷ w ∷ z ∷ [] ≡ littleEndian 2 a ++ littleEndian 2 b
+unfolding littleEndian
 sums-are p q w z a b p= q= w= z= h k =
     ap₂ (λ (x y : ℕ). x ∷ y ∷ w ∷ z ∷ []) p= (q= ∙ two-bytes a h) ∙ ap₂ (λ (x y : ℕ). a % 256 ∷ a / 256 % 256 ∷ x ∷ y ∷ []) w= (z= ∙ two-bytes b k)
 
@@ -69,7 +69,7 @@ pub framed-is : (block : List ℕ) (kind count number a b p q w z : ℕ) (m : Li
     → a ≡ number % 256 → b ≡ number / 256
     → p ≡ sumsOf m .plain % 256 → q ≡ sumsOf m .plain / 256 → w ≡ sumsOf m .weighted % 256 → z ≡ sumsOf m .weighted / 256
     → placed m 508 (p ∷ q ∷ w ∷ z ∷ []) ≡ blockOf kind count number (bodyOf block)
-unfolding blockOf summed bytesOf
+unfolding blockOf summed littleEndian
 framed-is block kind count number a b p q w z m long small is a= b= p= q= w= z= =
     let head : List ℕ = 80 ∷ 82 ∷ 84 ∷ 82 ∷ kind ∷ count ∷ a ∷ b ∷ [] in
     let whole : List ℕ = headOf kind count number ++ bodyOf block in
@@ -77,7 +77,7 @@ framed-is block kind count number a b p q w z m long small is a= b= p= q= w= z= 
     let first : take 508 m ≡ whole = ap (take 508) is ∙ first-part block long head refl ∙ ap (λ (x : List ℕ). x ++ bodyOf block) named in
     let plain : sumsOf m .plain ≡ plainSum whole = ap plainSum first in
     let weighted : sumsOf m .weighted ≡ weightedSum whole = ap weightedSum first in
-    let lows : p ∷ q ∷ w ∷ z ∷ [] ≡ bytesOf 2 (plainSum whole) ++ bytesOf 2 (weightedSum whole) = sums-are p q w z (plainSum whole) (weightedSum whole)
+    let lows : p ∷ q ∷ w ∷ z ∷ [] ≡ littleEndian 2 (plainSum whole) ++ littleEndian 2 (weightedSum whole) = sums-are p q w z (plainSum whole) (weightedSum whole)
     (p= ∙ ap (λ (x : ℕ). x % 256) plain) (q= ∙ ap (λ (x : ℕ). x / 256) plain) (w= ∙ ap (λ (x : ℕ). x % 256) weighted) (z= ∙ ap (λ (x : ℕ). x / 256) weighted)
     (plain-small whole) (weighted-small whole) in
     ap (λ (x : List ℕ). placed x 508 (p ∷ q ∷ w ∷ z ∷ [])) is

@@ -11,13 +11,14 @@ use std::process::{Child, Command, Stdio};
 use std::thread::sleep;
 use std::time::{Duration, Instant};
 
+use blocks::{tens, Block, Post, BLOCK};
 use prtr::Class;
 use trials::floats::{within, RANGES};
-use trials::layout::{Block, Post, BLOCK};
 use trials::program;
 use trials::rng::Rng;
-use trials::site::{Site, ROWS, WHOLE};
-use trials::year::{tens, Year};
+use trials::site::{self, ROWS, WHOLE};
+use trials::writes;
+use trials::year::Year;
 
 /// The rounds whose median counts.
 const ROUNDS: usize = 25;
@@ -29,7 +30,7 @@ const PLANTS: u64 = 11;
 /// A year of 4,000 posts, ten to a block, and the close in a block of its own.
 fn full_year(seed: u64) -> Vec<Block> {
     let mut rng = Rng::new(seed);
-    let site = Site::sized(&mut rng, 8, 12, 8);
+    let site = site::sized(&mut rng, 8, 12, 8);
     let mut year = Year::open(&mut rng, site, 4_000);
     year.posts.push(Post::CLOSE);
     year.sizes = tens(4_000);
@@ -63,7 +64,7 @@ fn compare(name: &str, items: usize, mut library: impl FnMut(), mut model: impl 
     let library = median(rounds.iter().map(|round| round.0).collect()) * each;
     let model = median(rounds.iter().map(|round| round.1).collect()) * each;
     let ratio = median(rounds.iter().map(|round| round.0 / round.1).collect());
-    println!("{name:<28} {library:>12.1} {model:>12.1} {ratio:>8.2}");
+    println!("{name:<32} {library:>12.1} {model:>12.1} {ratio:>8.2}");
 }
 
 fn bench_journals(name: &str, journals: &[Vec<Block>]) {
@@ -79,6 +80,29 @@ fn bench_journals(name: &str, journals: &[Vec<Block>]) {
     let model = || {
         for journal in journals {
             black_box(model::filing(black_box(journal.as_flattened())));
+        }
+    };
+    compare(name, journals.len(), library, model);
+}
+
+/// Times the writing of the journals' records, each into a buffer of its journal's length.
+fn bench_writes(name: &str, journals: &[Vec<Block>]) {
+    let lists: Vec<(Vec<u8>, usize)> = journals
+        .iter()
+        .map(|journal| (writes::of_journal(journal), journal.as_flattened().len()))
+        .collect();
+    let most = lists.iter().map(|list| list.1).max().unwrap_or(0);
+    let mut out = vec![0; most];
+    let library = || {
+        for (list, room) in &lists {
+            let written = prtr::write_into(black_box(list), &mut out[..*room]);
+            black_box(written.expect("a year's records are taken"));
+        }
+    };
+    let model = || {
+        for (list, room) in &lists {
+            let written = writes::whole(black_box(list), *room);
+            black_box(written.expect("a year's records are taken"));
         }
     };
     compare(name, journals.len(), library, model);
@@ -234,7 +258,7 @@ fn bench_memory(years: &[Vec<Block>]) {
         return;
     }
     println!("\nmemory of the program filing, most kB before its input ends");
-    println!("{:<28} {:>12} {:>12}", "", "least peak", "most peak");
+    println!("{:<32} {:>12} {:>12}", "", "least peak", "most peak");
     let years: Vec<&[u8]> = years.iter().map(|year| year.as_flattened()).collect();
     let rows = [
         ("no bytes", &[&[][..]][..]),
@@ -242,8 +266,8 @@ fn bench_memory(years: &[Vec<Block>]) {
     ];
     for (name, journals) in rows {
         match peaks(&program, journals) {
-            Some((least, most)) => println!("{name:<28} {least:>12} {most:>12}"),
-            None => println!("{name:<28} not measured"),
+            Some((least, most)) => println!("{name:<32} {least:>12} {most:>12}"),
+            None => println!("{name:<32} not measured"),
         }
     }
 }
@@ -258,13 +282,19 @@ fn main() {
             model::filing(journal),
             "both print the same"
         );
+        let list = writes::of_journal(year);
+        let mut written = vec![0; journal.len()];
+        assert_eq!(prtr::write_into(&list, &mut written), Ok(journal.len()));
+        assert_eq!(written, journal, "a year is written as it was");
     }
     println!(
-        "{:<28} {:>12} {:>12} {:>8}",
+        "{:<32} {:>12} {:>12} {:>8}",
         "ns each, medians", "library", "model", "ratio"
     );
     bench_journals("a year of 4,000 posts", &years[..1]);
     bench_journals("11 plants' years, each", &years);
+    bench_writes("a year of 4,000 posts written", &years[..1]);
+    bench_writes("11 plants' years written, each", &years);
     bench_leaves();
     bench_losses();
     bench_memory(&years);

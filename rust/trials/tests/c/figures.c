@@ -26,14 +26,17 @@ static const char *name(uint8_t status)
     case PRTR_FULL: return "PRTR_FULL";
     case PRTR_SHORT: return "PRTR_SHORT";
     case PRTR_NO_SUBSTANCE: return "PRTR_NO_SUBSTANCE";
+    case PRTR_NO_ROOM: return "PRTR_NO_ROOM";
+    case PRTR_MALFORMED: return "PRTR_MALFORMED";
     default: return "unknown";
     }
 }
 
 static void names(void)
 {
-    for (uint8_t status = 0; status < 14; status++)
+    for (uint8_t status = 0; status < 15; status++)
         printf("status %u %s\n", status, name(status));
+    printf("status 255 %s\n", name(255));
 }
 
 static void put(uint8_t *at, uint64_t value, int bytes)
@@ -156,6 +159,65 @@ static void filing(const uint8_t *journal, size_t length)
     printf("%zu bytes, %zu untouched\n", written, untouched(out));
 }
 
+/* Adds the tag and the length of a record, and gives the row's new length. */
+static size_t tag(uint8_t *records, size_t length, char tag, uint16_t count)
+{
+    records[length] = (uint8_t)tag;
+    put(records + length + 1, count, 2);
+    return length + 3;
+}
+
+/* The records of the year's two set-up blocks, an end and five posts. */
+static size_t year_records(const uint8_t *journal, uint8_t *records)
+{
+    size_t length = 0;
+    for (const uint8_t *block = journal; block < journal + 2 * BLOCK; block += BLOCK) {
+        length = tag(records, length, 'S', 502);
+        memcpy(records + length, block + 4, 2);
+        memcpy(records + length + 2, block + 8, 500);
+        length += 502;
+    }
+    length = tag(records, length, 'E', 0);
+    for (int place = 0; place < 5; place++) {
+        length = tag(records, length, 'P', 48);
+        memcpy(records + length, journal + 2 * BLOCK + 8 + 48 * place, 48);
+        length += 48;
+    }
+    return length;
+}
+
+/* Writes records into so much room, and tells whether the year's journal or the fill is there. */
+static void write_into(const uint8_t *records, size_t length, size_t room, const uint8_t *journal)
+{
+    uint8_t out[4 * BLOCK], fill[4 * BLOCK];
+    size_t written = 99, place = 99;
+    memset(out, FILL, sizeof out);
+    memset(fill, FILL, sizeof fill);
+    uint8_t status = prtr_write(records, length, out, room, &written, &place);
+    size_t taken = status == 0 ? written : 0;
+    printf("write into %zu: %s written %zu place %zu, journal %s, rest %s\n", room, name(status), written, place,
+           memcmp(out, journal, taken) == 0 ? "right" : "wrong",
+           memcmp(out + taken, fill, sizeof out - taken) == 0 ? "untouched" : "touched");
+}
+
+static void writes(const uint8_t *journal)
+{
+    uint8_t records[2048];
+    size_t length = year_records(journal, records);
+    write_into(records, length, 4 * BLOCK, journal);
+    write_into(records, length, 3 * BLOCK, journal);
+    write_into(records, length, 3 * BLOCK - 1, journal);
+    write_into(records, length, 0, journal);
+    write_into(records, length - 1, 4 * BLOCK, journal);
+    write_into(records, 0, 0, journal);
+    records[3] = 3;
+    write_into(records, length, 4 * BLOCK, journal);
+    records[0] = 'E';
+    write_into(records, length, 4 * BLOCK, journal);
+    records[0] = 's';
+    write_into(records, length, 4 * BLOCK, journal);
+}
+
 int main(void)
 {
     uint8_t journal[3 * BLOCK];
@@ -181,5 +243,6 @@ int main(void)
     filing(journal, sizeof journal);
     filing(journal, 0);
     filing(journal, 1000);
+    writes(journal);
     return 0;
 }

@@ -1,36 +1,49 @@
--- What is found is the number's row of the rows from i on.
+-- The place is that of the number's row, of the rows from i on.
 use mathlib.Core.Path.{_≡_, refl, sym, subst, _∙_}
 use Prim.Native.Nat.{ℕ, _≤_, _<_, _-_, _+_}
 use native.Mathlib.Omega.{arith}
 use native.Mathlib.Numerals.{add-one}
-use lib.Dec.{eqb}
+use lib.Dec.{eqb, ltb}
 use lib.Ieee.{nan, ofBits, round}
 use lib.ListN.{drop, getD}
 use lib.Seq.{drop-cons}
 use borrow.Author.Needs.{needs}
-use borrow.Author.Tests.{eq-eqb, ne-eqb}
+use borrow.Author.Tests.{eq-eqb, ne-eqb, lt-ltb, le-ltb}
 use Rattle.amounts.specs.Coefficient.{entry, rows, rowIf, find, rowOf, answer}
-use Rattle.amounts.specs.Decline.{taken}
+use Rattle.amounts.specs.Decline.{Answer, taken, declined, noRow}
+use Rattle.amounts.specs.declared.coefficient.CoefficientRow.{CoefficientRow}
 use Rattle.amounts.specs.declared.coefficient.Entry.{Entry}
 use Rattle.amounts.proofs.coefficient.row_of.Statement.{statement}
 use Rattle.amounts.proofs.coefficient.row_of.Tie as tie
-
-abbrev Inv-loop : tie.InvT-loop
-Inv-loop number found₀ i₀ found i = (i ≤ 5) × (answer found ≡ find number (drop i rows))
-
-abbrev μ-loop : tie.MeasureT-loop
-μ-loop number found₀ i₀ found i = i
 
 -- the entry at i, with what a read past the end would give
 abbrev at : ℕ → Entry
 at i = getD rows i (entry 0 nan nan)
 
+-- the row at a place, or none
+unfoldable held : ℕ → Answer CoefficientRow
+held place = rowIf (ltb place 5) (at place .row) (declined noRow)
+
+abbrev Inv-loop : tie.InvT-loop
+Inv-loop number place₀ i₀ place i = (i ≤ 5) × (held place ≡ find number (drop i rows))
+
+abbrev μ-loop : tie.MeasureT-loop
+μ-loop number place₀ i₀ place i = i
+
 step : (n i : ℕ) → i < 5 → find n (drop i rows) ≡ rowIf (eqb (at i .number) n) (at i .row) (find n (drop (i + 1) rows))
 unfolding find
 step n i h = rw (add-one, drop-cons rows i (entry 0 nan nan) (unfold rows in h))
 
-hit : (n i : ℕ) → i < 5 → at i .number ≡ n → taken (at i .row) ≡ find n (drop i rows)
-hit n i h e = sym (step n i h ∙ rw (eq-eqb (at i .number) n e))
+inside : (place : ℕ) → place < 5 → held place ≡ taken (at place .row)
+unfolding held
+inside place h = rw (lt-ltb place 5 h)
+
+outside : (place : ℕ) → 5 ≤ place → held place ≡ declined noRow
+unfolding held
+outside place h = rw (le-ltb place 5 h)
+
+hit : (n i : ℕ) → i < 5 → at i .number ≡ n → held i ≡ find n (drop i rows)
+hit n i h e = inside i h ∙ sym (step n i h ∙ rw (eq-eqb (at i .number) n e))
 
 miss : (n i k : ℕ) → i < 5 → (at i .number ≡ n → ⊥) → i + 1 ≡ k → find n (drop k rows) ≡ find n (drop i rows)
 miss n i k h e s = sym (step n i h ∙ rw (ne-eqb (at i .number) n e, s))
@@ -41,7 +54,7 @@ unfolding rowOf
 all n i e = rw e
 
 loop-holds : tie.Need-loop-holds Inv-loop μ-loop
-unfolding answer find rows
+unfolding held find rows
 loop-holds c = (omega arith, refl)
 
 sub-i : tie.Need-sub-i Inv-loop μ-loop
@@ -57,10 +70,10 @@ loop-less : tie.Need-loop-less Inv-loop μ-loop
 loop-less c = omega arith
 
 loop-again : tie.Need-loop-again Inv-loop μ-loop
-unfolding answer ofBits round rows
+unfolding ofBits round rows
 loop-again c =
-    let l = c .before .before .before .before .before in
-    (omega arith, hit (l .before .args .number) (l .loop .i - 1) (omega arith) (c .before .if1 .taken))
+    let l = c .before .before .before .before in
+    (omega arith, hit (l .before .args .number) (l .loop .i - 1) (omega arith) (c .if1 .taken))
 
 loop-less-2 : tie.Need-loop-less-2 Inv-loop μ-loop
 loop-less-2 c = omega arith
@@ -72,7 +85,22 @@ loop-again-2 c =
     (omega arith, l .loop .inv .1 ∙ miss (l .before .args .number) (l .loop .i - 1) (l .loop .i) (omega arith) (c .if1 .left) (omega arith))
 
 returns : tie.Need-returns Inv-loop μ-loop
-returns c = c .before .loop .inv .1 ∙ all (c .before .before .args .number) (c .before .loop .i) (omega arith)
+unfolding answer
+returns c =
+    let l = c .before .before in
+    sym (outside (l .loop .place) (c .if2 .taken)) ∙ l .loop .inv .1 ∙ all (l .before .args .number) (l .loop .i) (omega arith)
+
+mul-e-2 : tie.Need-mul-e-2 Inv-loop μ-loop
+mul-e-2 c = search needs
+
+array-copy-out-e-2 : tie.Need-array-copy-out-e-2 Inv-loop μ-loop
+array-copy-out-e-2 c = search needs
+
+returns-2 : tie.Need-returns-2 Inv-loop μ-loop
+unfolding answer ofBits round rows
+returns-2 c =
+    let l = c .before .before .before .before in
+    sym (inside (l .loop .place) (c .before .before .if2 .left)) ∙ l .loop .inv .1 ∙ all (l .before .args .number) (l .loop .i) (omega arith)
 
 pub row-of-spec : {M : Type 1} → statement M
 row-of-spec =
@@ -88,4 +116,7 @@ row-of-spec =
     loop-again
     loop-less-2
     loop-again-2
-    returns)
+    returns
+    mul-e-2
+    array-copy-out-e-2
+    returns-2)

@@ -29,19 +29,19 @@ abbrev In : Range → ℕ → Float → Type 0
 In range bits x = (inRange range (valueOf bits) ≡ true) × (x ≡ valueOf bits)
 
 w-in : (c : tie.After-known-told) → let a = start1 c .args in In (a .ranges .w) (a .w) (c .before .wx .given .0 .0)
-w-in c = read _ _ _ _ (c .before .before .before .read-float .ensures) (c .before .wx .given .1)
+w-in c = read _ _ _ _ (c .before .before .before .read-upward .ensures) (c .before .wx .given .1)
 
 u-in : (c : tie.After-known-told2) → let a = start2 c .args in In (a .ranges .u) (a .u) (c .before .ux .given .0 .0)
-u-in c = read _ _ _ _ (c .before .before .before .read-float2 .ensures) (c .before .ux .given .1)
+u-in c = read _ _ _ _ (c .before .before .before .read-upward2 .ensures) (c .before .ux .given .1)
 
 p-in : (c : tie.After-known-told3) → let a = start3 c .args in In (a .ranges .p) (a .p) (c .before .px .given .0 .0)
-p-in c = read _ _ _ _ (c .before .before .before .read-float3 .ensures) (c .before .px .given .1)
+p-in c = read _ _ _ _ (c .before .before .before .read-upward3 .ensures) (c .before .px .given .1)
 
 q-in : (c : tie.After-known-told4) → let a = start4 c .args in In (a .ranges .q) (a .q) (c .before .qx .given .0 .0)
-q-in c = read _ _ _ _ (c .before .before .before .read-float4 .ensures) (c .before .qx .given .1)
+q-in c = read _ _ _ _ (c .before .before .before .read-upward4 .ensures) (c .before .qx .given .1)
 
-read-float-requires : tie.Need-read-float-requires
-read-float-requires c κs = search needs
+read-upward-requires : tie.Need-read-upward-requires
+read-upward-requires c κs = c .pre .0
 
 enum-known-wx : tie.Need-enum-known-wx
 enum-known-wx c = search needs
@@ -51,10 +51,10 @@ enum-told c = search needs
 
 returns : tie.Need-returns
 unfolding inputsOf
-returns c = rw (refused _ _ _ _ (c .before .before .read-float .ensures) (c .enum-told .given .1))
+returns c = rw (refused _ _ _ _ (c .before .before .read-upward .ensures) (c .enum-told .given .1))
 
-read-float-requires-2 : tie.Need-read-float-requires-2
-read-float-requires-2 c κs = search needs
+read-upward-requires-2 : tie.Need-read-upward-requires-2
+read-upward-requires-2 c κs = start1 c .pre .1 .0
 
 enum-known-ux : tie.Need-enum-known-ux
 enum-known-ux c = search needs
@@ -64,10 +64,10 @@ enum-told-2 c = search needs
 
 returns-2 : tie.Need-returns-2
 unfolding inputsOf
-returns-2 c = rw (w-in (c .before .before .before) .0, refused _ _ _ _ (c .before .before .read-float2 .ensures) (c .enum-told2 .given .1))
+returns-2 c = rw (w-in (c .before .before .before) .0, refused _ _ _ _ (c .before .before .read-upward2 .ensures) (c .enum-told2 .given .1))
 
-read-float-requires-3 : tie.Need-read-float-requires-3
-read-float-requires-3 c κs = search needs
+read-upward-requires-3 : tie.Need-read-upward-requires-3
+read-upward-requires-3 c κs = start2 c .pre .1 .1 .0
 
 enum-known-px : tie.Need-enum-known-px
 enum-known-px c = search needs
@@ -80,10 +80,10 @@ unfolding inputsOf
 returns-3 c =
     let u = c .before .before .before in
     let w = u .before .before .before .before in
-    rw (w-in w .0, u-in u .0, refused _ _ _ _ (c .before .before .read-float3 .ensures) (c .enum-told3 .given .1))
+    rw (w-in w .0, u-in u .0, refused _ _ _ _ (c .before .before .read-upward3 .ensures) (c .enum-told3 .given .1))
 
-read-float-requires-4 : tie.Need-read-float-requires-4
-read-float-requires-4 c κs = search needs
+read-upward-requires-4 : tie.Need-read-upward-requires-4
+read-upward-requires-4 c κs = start3 c .pre .1 .1 .1
 
 enum-known-qx : tie.Need-enum-known-qx
 enum-known-qx c = search needs
@@ -97,7 +97,7 @@ returns-4 c =
     let p = c .before .before .before in
     let u = p .before .before .before .before in
     let w = u .before .before .before .before in
-    rw (w-in w .0, u-in u .0, p-in p .0, refused _ _ _ _ (c .before .before .read-float4 .ensures) (c .enum-told4 .given .1))
+    rw (w-in w .0, u-in u .0, p-in p .0, refused _ _ _ _ (c .before .before .read-upward4 .ensures) (c .enum-told4 .given .1))
 
 returns-5 : tie.Need-returns-5
 unfolding inputsOf
@@ -111,19 +111,19 @@ pub read-inputs-spec : {M : Type 1} → statement M
 read-inputs-spec =
     tie.close
     (tie.spec
-    read-float-requires
+    read-upward-requires
     enum-known-wx
     enum-told
     returns
-    read-float-requires-2
+    read-upward-requires-2
     enum-known-ux
     enum-told-2
     returns-2
-    read-float-requires-3
+    read-upward-requires-3
     enum-known-px
     enum-told-3
     returns-3
-    read-float-requires-4
+    read-upward-requires-4
     enum-known-qx
     enum-told-4
     returns-4

@@ -4,7 +4,7 @@ use Rattle.amounts.specs.Form.{stationRanges, formOf}
 use Rattle.amounts.specs.declared.form.Inputs.{Inputs}
 use Rattle.amounts.specs.declared.form.LossForm.{LossForm}
 use Rattle.amounts.specs.declared.form.LossForm.the-variants.{Station}
-use Rattle.amounts.proofs.form.Laws.{filled}
+use Rattle.amounts.proofs.form.Laws.{station-upward, filled}
 use Rattle.amounts.proofs.form.read_station.Statement.{statement}
 use Rattle.amounts.proofs.form.read_station.Tie as tie
 
@@ -12,7 +12,8 @@ abbrev of-inputs : Inputs → LossForm
 of-inputs x = Station (x .w) (x .u) (x .p) (x .q)
 
 read-inputs-requires : tie.Need-read-inputs-requires
-read-inputs-requires c κs = search needs
+unfolding ofBits round
+read-inputs-requires c κs = station-upward
 
 enum-known-x : tie.Need-enum-known-x
 enum-known-x c = search needs

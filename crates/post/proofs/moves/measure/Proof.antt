@@ -28,11 +28,8 @@ enum-told-3 c = search needs
 number-at-requires : tie.Need-number-at-requires
 number-at-requires c κs = search needs
 
-row-of-requires : tie.Need-row-of-requires
-row-of-requires c κs = search needs
-
-loss-over-requires : tie.Need-loss-over-requires
-loss-over-requires c κs = search needs
+loss-by-number-requires : tie.Need-loss-by-number-requires
+loss-by-number-requires c κs = search needs
 
 returns : tie.Need-returns
 unfolding measured
@@ -44,7 +41,7 @@ returns-2 c = rw (c .before .before .before .enum-told2 .given .1) (c .stated2 .
 
 returns-3 : tie.Need-returns-3
 unfolding measured
-returns-3 c = let k = c .before .before in rw (k .before .enum-told3 .given .1, ← k .number-at .ensures, ← c .before .row-of .ensures) (c .loss-over .ensures)
+returns-3 c = let k = c .before in rw (k .before .enum-told3 .given .1, ← k .number-at .ensures) (c .loss-by-number .ensures)
 
 pub measure-spec : {M : Type 1} → statement M
 measure-spec =
@@ -58,8 +55,7 @@ measure-spec =
     stated-requires-2
     enum-told-3
     number-at-requires
-    row-of-requires
-    loss-over-requires
+    loss-by-number-requires
     returns
     returns-2
     returns-3)

@@ -1,20 +1,7 @@
-//! Document 01's bytes: posts, blocks and their check sums.
+//! A post and its bytes.
 
-/// The bytes of a block.
-pub const BLOCK: usize = 512;
 /// The bytes of a post.
 pub const POST: usize = 48;
-/// Where a block's body starts.
-pub const BODY: usize = 8;
-/// Where the check sums start.
-pub const SUMS: usize = 508;
-/// The most posts of a block.
-pub const MOST_POSTS: usize = 10;
-/// What check sums are a remainder by.
-pub const MODULUS: u32 = 65_521;
-
-/// One block.
-pub type Block = [u8; BLOCK];
 
 /// A stage's holding of a substance, by their places.
 pub type Holding = (u8, u8);
@@ -112,58 +99,14 @@ impl Post {
         bytes[..4].copy_from_slice(&[self.kind, self.material, self.stage, self.substance]);
         bytes[4..8].copy_from_slice(&self.content.to_le_bytes());
         bytes[8..16].copy_from_slice(&self.quantity.to_le_bytes());
-        for (place, float) in bytes[16..].chunks_mut(8).zip(self.floats) {
-            place.copy_from_slice(&float.to_le_bytes());
-        }
-        bytes
+        with_floats(bytes, self.floats)
     }
 }
 
-/// A block without a body, not sealed.
-pub fn frame(kind: u8, count: u8, number: u16) -> Block {
-    let mut block = [0; BLOCK];
-    block[..4].copy_from_slice(b"PRTR");
-    block[4] = kind;
-    block[5] = count;
-    block[6..8].copy_from_slice(&number.to_le_bytes());
-    block
-}
-
-/// The two check sums of a block, as it is.
-pub fn sums(block: &Block) -> [u16; 2] {
-    let (mut plain, mut placed) = (0u32, 0u32);
-    for (place, &byte) in (1..).zip(&block[..SUMS]) {
-        plain += byte as u32;
-        placed += place * byte as u32;
+/// A post's bytes with other floats, by their bits.
+pub fn with_floats(mut post: [u8; POST], floats: [u64; 4]) -> [u8; POST] {
+    for (place, bits) in post[16..].chunks_mut(8).zip(floats) {
+        place.copy_from_slice(&bits.to_le_bytes());
     }
-    [(plain % MODULUS) as u16, (placed % MODULUS) as u16]
-}
-
-/// Puts two check sums into a block.
-pub fn put_sums(block: &mut Block, sums: [u16; 2]) {
-    block[SUMS..SUMS + 2].copy_from_slice(&sums[0].to_le_bytes());
-    block[SUMS + 2..].copy_from_slice(&sums[1].to_le_bytes());
-}
-
-/// Puts the block's own check sums into it.
-pub fn seal(block: &mut Block) {
-    put_sums(block, sums(block));
-}
-
-/// A sealed block of posts, at most ten.
-pub fn posts_block(number: u16, posts: &[Post]) -> Block {
-    let mut block = frame(3, posts.len() as u8, number);
-    for (place, post) in block[BODY..].chunks_mut(POST).zip(posts) {
-        place.copy_from_slice(&post.bytes());
-    }
-    seal(&mut block);
-    block
-}
-
-/// Gives each block its place as its number, and seals it.
-pub fn renumber(blocks: &mut [Block]) {
-    for (number, block) in blocks.iter_mut().enumerate() {
-        block[6..8].copy_from_slice(&(number as u16).to_le_bytes());
-        seal(block);
-    }
+    post
 }
