@@ -13,6 +13,7 @@ use trials::lists;
 use trials::program;
 use trials::rng::Rng;
 use trials::trial::say;
+use trials::writes;
 use trials::year::Year;
 
 const EINTR: u64 = 4;
@@ -92,10 +93,12 @@ fn list() -> List {
 }
 
 /// An input for each program.
-fn inputs() -> [(&'static str, PathBuf); 2] {
+fn inputs() -> [(&'static str, PathBuf); 3] {
+    let records = writes::of_journal(&blocks::xylene::year());
     [
         ("filing", file("whole.journal", &journal(7))),
         ("replay", file("whole.list", &list().records)),
+        ("write", file("whole.records", &records)),
     ]
 }
 
@@ -286,4 +289,27 @@ fn replay_goes_no_further_than_a_failed_read() {
         }
     }
     say(&format!("replay: {runs} runs with reads that fail"));
+}
+
+#[test]
+fn write_never_writes_from_a_failed_read() {
+    let library = preloaded("write_read.so");
+    let program = program::built("write");
+    let year = blocks::xylene::year();
+    let records = writes::of_journal(&year);
+    let input = file("faulty.records", &records);
+    let mut runs = 0;
+    for most in MOST {
+        let all = reads_of_records(&records, most).iter().sum::<u64>() + 1;
+        for fault in faults(most, &calls(all)).chain([Fault::none(most)]) {
+            let out = fault.run(&program, library.as_os_str(), &input);
+            let (stdout, stderr) = match fault.passes(all) {
+                true => (year.as_flattened(), String::new()),
+                false => (&b""[..], unread("write")),
+            };
+            expect(&format!("write, {fault:?}"), &out, stdout, &stderr);
+            runs += 1;
+        }
+    }
+    say(&format!("write: {runs} runs with reads that fail"));
 }
