@@ -54,14 +54,14 @@ abbrev pub withBlock : Page → List ℕ → Draft → Page
 withBlock p block d = pageOf (placed (p .bytes) (p .filled) block) (p .filled + 512) d
 
 -- the block of the posts that wait is written, and the next one is zero
-abbrev pub turned : Page → ℕ → List ℕ → Page
-turned p count block = withBlock p (postsBlock count (p .draft .tally .blocks) block) (freshDraft (tally.turned (p .draft .tally)))
+abbrev pub finished : Page → ℕ → List ℕ → Page
+finished p count block = withBlock p (postsBlock count (p .draft .tally .blocks) block) (freshDraft (tally.finished (p .draft .tally)))
 
 -- "A tenth post writes its block"
 unfoldable pub posted : Page → List ℕ → Page
 unfolding tally.posted
 posted p s =
-    cond (eqb (p .draft .tally .waiting) 9) (turned p 10 (withPost (p .draft) s))
+    cond (eqb (p .draft .tally .waiting) 9) (finished p 10 (withPost (p .draft) s))
     (pageOf (p .bytes) (p .filled) (draftOf (tally.posted (p .draft .tally)) (withPost (p .draft) s)))
 
 unfoldable pub postOn : Page → List ℕ → Answer Page
@@ -76,7 +76,7 @@ setUpOn p kind count body =
 
 -- "ending with no post waiting writes nothing"
 unfoldable pub ended : Page → Page
-ended p = cond (eqb (p .draft .tally .waiting) 0) p (turned p (p .draft .tally .waiting) (p .draft .block))
+ended p = cond (eqb (p .draft .tally .waiting) 0) p (finished p (p .draft .tally .waiting) (p .draft .block))
 
 -- ---- what is true of every writer
 

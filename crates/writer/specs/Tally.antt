@@ -50,16 +50,16 @@ postAnswer room t s =
 -- ---- how far the writer has come then
 
 -- a block is written, and no post waits
-abbrev pub turned : Tally → Tally
-turned t = tallyOf (t .outline) 0 (t .blocks + 1)
+abbrev pub finished : Tally → Tally
+finished t = tallyOf (t .outline) 0 (t .blocks + 1)
 
 -- "A tenth post writes its block"
 unfoldable pub posted : Tally → Tally
-posted t = cond (eqb (t .waiting) 9) (turned t) (tallyOf (t .outline) (t .waiting + 1) (t .blocks))
+posted t = cond (eqb (t .waiting) 9) (finished t) (tallyOf (t .outline) (t .waiting + 1) (t .blocks))
 
 -- "ending with no post waiting writes nothing"
 unfoldable pub ended : Tally → Tally
-ended t = cond (eqb (t .waiting) 0) t (turned t)
+ended t = cond (eqb (t .waiting) 0) t (finished t)
 
 -- the outline after a set-up block
 abbrev pub outlineAfter : Outline → ℕ → ℕ → List ℕ → Outline

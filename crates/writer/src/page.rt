@@ -85,7 +85,7 @@ pub fn take_set_up(
 }
 
 // The block of so many posts is written, and the next one begun.
-fn turn(
+fn finish(
     buffer: &mut [u8],
     filled: usize,
     block: [u8; 512],
@@ -126,7 +126,7 @@ pub fn take_post(buffer: &mut [u8], filled: usize, d: Draft, post: &[u8]) -> Tak
     let mut block = d.block;
     frame::put(&mut block, 8 + t.waiting * 48, post);
     if t.waiting == 9 {
-        return turn(buffer, filled, block, 10, t.blocks, tally);
+        return finish(buffer, filled, block, 10, t.blocks, tally);
     }
     Taken {
         verdict: Verdict::Accepted,
@@ -152,5 +152,5 @@ pub fn end_posts(buffer: &mut [u8], filled: usize, d: Draft) -> Taken
     let told = tally::end(buffer.len(), t);
     let next = told.tally;
     let block = d.block;
-    turn(buffer, filled, block, t.waiting as u8, t.blocks, next)
+    finish(buffer, filled, block, t.waiting as u8, t.blocks, next)
 }

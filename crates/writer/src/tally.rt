@@ -6,7 +6,7 @@ ghost use mathlib.Core.Bool.{true};
 ghost use Rattle.layout.specs.Outline.{mayDescribe};
 ghost use Rattle.layout.specs.Verdict.{verdictOf};
 ghost use Rattle.layout.specs.declared.verdict.Verdict.the-variants.{Accepted};
-ghost use Rattle.writer.specs.Tally.{freshTally, isFree, kindChecks, setUpChecks, mayBegin, postAnswer, turned, ended, outlineAfter, setUpOn, postOn, Sound, Counts};
+ghost use Rattle.writer.specs.Tally.{freshTally, isFree, kindChecks, setUpChecks, mayBegin, postAnswer, finished, ended, outlineAfter, setUpOn, postOn, Sound, Counts};
 use amounts::decline;
 use layout::outline;
 use layout::outline::Outline;
@@ -101,9 +101,9 @@ fn check_post(room: usize, t: Tally, s: &[u8]) -> Verdict
 }
 
 // A block is written, and no post waits.
-fn turn(t: Tally) -> Counted
+fn finish(t: Tally) -> Counted
     requires { ⌜ t .blocks < 65536 ⌝ }
-    ensures { λ r. ⌜ r ≡ record { verdict = Accepted; tally = turned t } ⌝ }
+    ensures { λ r. ⌜ r ≡ record { verdict = Accepted; tally = finished t } ⌝ }
 {
     let outline = t.outline;
     Counted {
@@ -166,7 +166,7 @@ pub fn post(room: usize, t: Tally, s: &[u8]) -> Counted
         };
     }
     if t.waiting == 9 {
-        return turn(t);
+        return finish(t);
     }
     let outline = t.outline;
     Counted {
@@ -190,5 +190,5 @@ pub fn end(room: usize, t: Tally) -> Counted
             tally: t,
         };
     }
-    turn(t)
+    finish(t)
 }

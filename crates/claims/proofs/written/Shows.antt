@@ -154,9 +154,9 @@ told-set-up posts blocks room t kind count body h number a =
     (set-up-outline kind count n body (a .low) (a .high) o (a .long)) (subst (λ (k : ℕ). Passes k o x) number passes)
 
 -- the posts that wait become a block
-pub told-turned : (posts blocks waiting : List (List ℕ)) (o : Outline) → Told posts blocks waiting o → 1 ≤ length waiting → length waiting ≤ 10 → mayPost o ≡ true
+pub told-finished : (posts blocks waiting : List (List ℕ)) (o : Outline) → Told posts blocks waiting o → 1 ≤ length waiting → length waiting ≤ 10 → mayPost o ≡ true
     → length blocks < 65536 → Told posts (blocks ++ (blockOfPosts (length blocks) waiting ∷ [])) [] o
-told-turned posts blocks waiting o h some few turn small =
+told-finished posts blocks waiting o h some few turn small =
     let n : ℕ = length blocks in
     let each = each-long o waiting (h .formed) in
     told-block posts blocks waiting o o (blockOfPosts n waiting) h (posts-held n waiting each few) (posts-outline n waiting o)

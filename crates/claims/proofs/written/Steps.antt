@@ -14,7 +14,7 @@ use Rattle.layout.proofs.frame.Made.{made-long}
 use Rattle.writer.specs.Calls.{setUp}
 use Rattle.writer.specs.Frame.{placed}
 use Rattle.writer.specs.Page as page
-use Rattle.writer.specs.Page.{Page, pageOf, draftOf, turned, postsBlock, withPost, posted}
+use Rattle.writer.specs.Page.{Page, pageOf, draftOf, finished, postsBlock, withPost, posted}
 use Rattle.writer.specs.Tally as tally
 use Rattle.writer.specs.Tally.{tallyOf}
 use Rattle.writer.specs.declared.tally.Tally.{Tally}
@@ -23,7 +23,7 @@ use Rattle.claims.proofs.written.Accepted.{SetUpTaken, PostTaken, setUp
 use Rattle.claims.proofs.written.Blocks.{each-long, postsBody, blockOfPosts, body-long}
 use Rattle.claims.proofs.written.Places.{joined-long}
 use Rattle.claims.proofs.written.Shows.{Filled, same-length, filled-next, drafted, drafted-none, drafted-next, drafted-body}
-use Rattle.claims.proofs.written.Shows.{Told, told-post, told-set-up, told-turned, Begins, Shows}
+use Rattle.claims.proofs.written.Shows.{Told, told-post, told-set-up, told-finished, Begins, Shows}
 
 -- ---- a set-up block
 
@@ -51,9 +51,9 @@ module _ (lent : List ℕ) (posts blocks : List (List ℕ)) (p : Page) (kind cou
 module _ (lent : List ℕ) (posts blocks waiting : List (List ℕ)) (p : Page) (number : p .draft .tally .blocks ≡ length blocks)
     (filled : Filled lent blocks (p .bytes) (p .filled)) (b : Begins lent blocks (p .draft .tally .outline))
     (told : Told posts blocks waiting (p .draft .tally .outline)) (some : 1 ≤ length waiting) (few : length waiting ≤ 10) where
-  pub shows-turned : (count : ℕ) (block : List ℕ) → count ≡ length waiting → block ≡ drafted waiting
-      → Shows lent posts (blocks ++ (blockOfPosts (length blocks) waiting ∷ [])) [] (turned p count block)
-  shows-turned count block is e =
+  pub shows-finished : (count : ℕ) (block : List ℕ) → count ≡ length waiting → block ≡ drafted waiting
+      → Shows lent posts (blocks ++ (blockOfPosts (length blocks) waiting ∷ [])) [] (finished p count block)
+  shows-finished count block is e =
       let o : Outline = p .draft .tally .outline in
       let n : ℕ = length blocks in
       let x : List ℕ = blockOfPosts n waiting in
@@ -71,7 +71,7 @@ module _ (lent : List ℕ) (posts blocks waiting : List (List ℕ)) (p : Page) (
         few = omega arith;
         block = drafted-none;
         begun = λ l. absurd (omega arith);
-        told = told-turned posts blocks waiting o told some few (b .in-turn) (b .number);
+        told = told-finished posts blocks waiting o told some few (b .in-turn) (b .number);
       }
 
 -- ---- a post
@@ -114,10 +114,10 @@ module _ (lent : List ℕ) (posts blocks waiting : List (List ℕ)) (p : Page) (
   unfolding posted
   shows-tenth e =
       let full : eqb (p .draft .tally .waiting) 9 ≡ true = eq-eqb (p .draft .tally .waiting) 9 (h .count ∙ e) in
-      let is : turned p 10 (withPost (p .draft) s) ≡ posted p s =
-      ap (λ (t : Bool). cond t (turned p 10 (withPost (p .draft) s)) (pageOf (p .bytes) (p .filled) (draftOf (tally.posted (p .draft .tally)) (withPost (p .draft) s)))) (sym full) in
+      let is : finished p 10 (withPost (p .draft) s) ≡ posted p s =
+      ap (λ (t : Bool). cond t (finished p 10 (withPost (p .draft) s)) (pageOf (p .bytes) (p .filled) (draftOf (tally.posted (p .draft .tally)) (withPost (p .draft) s)))) (sym full) in
       subst (λ (q : Page). Shows lent (posts ++ (s ∷ [])) (blocks ++ (blockOfPosts (length blocks) more ∷ [])) [] q) is
-      (shows-turned lent (posts ++ (s ∷ [])) blocks more p (h .number) (h .filled) begins told-more (omega (arith, more-long)) (omega (arith, more-long))
+      (shows-finished lent (posts ++ (s ∷ [])) blocks more p (h .number) (h .filled) begins told-more (omega (arith, more-long)) (omega (arith, more-long))
       10 (withPost (p .draft) s) (omega (arith, more-long)) behind)
 
   -- another waits
@@ -129,7 +129,7 @@ module _ (lent : List ℕ) (posts blocks waiting : List (List ℕ)) (p : Page) (
       let v : Tally = tallyOf (t .outline) (t .waiting + 1) (t .blocks) in
       let now : Page = pageOf (p .bytes) (p .filled) (draftOf v (withPost (p .draft) s)) in
       let is : now ≡ posted p s =
-      ap (λ (x : Bool). cond x (turned p 10 (withPost (p .draft) s)) (pageOf (p .bytes) (p .filled) (draftOf (cond x (tally.turned t) v) (withPost (p .draft) s)))) short in
+      ap (λ (x : Bool). cond x (finished p 10 (withPost (p .draft) s)) (pageOf (p .bytes) (p .filled) (draftOf (cond x (tally.finished t) v) (withPost (p .draft) s)))) short in
       let shown : Shows lent (posts ++ (s ∷ [])) blocks more now =
       record {
         filled = h .filled;
@@ -146,7 +146,7 @@ module _ (lent : List ℕ) (posts blocks waiting : List (List ℕ)) (p : Page) (
 
 -- the page once the posts that wait are written
 abbrev lastPage : Page → Page
-lastPage p = turned p (p .draft .tally .waiting) (p .draft .block)
+lastPage p = finished p (p .draft .tally .waiting) (p .draft .block)
 
 -- with no post waiting it writes nothing
 pub shows-same : (lent : List ℕ) (posts blocks : List (List ℕ)) (p : Page) → Shows lent posts blocks [] p → Shows lent posts blocks [] (page.ended p)
@@ -162,4 +162,4 @@ unfolding page.ended
 shows-ended lent posts blocks waiting p h one =
     let some : false ≡ eqb (p .draft .tally .waiting) 0 = sym (ne-eqb (p .draft .tally .waiting) 0 (λ e. omega (arith, h .count))) in
     subst (λ (q : Page). Shows lent posts (blocks ++ (blockOfPosts (length blocks) waiting ∷ [])) [] q) (ap (λ (t : Bool). cond t p (lastPage p)) some)
-    (shows-turned lent posts blocks waiting p (h .number) (h .filled) (h .begun one) (h .told) one (omega (arith, h .few)) (p .draft .tally .waiting) (p .draft .block) (h .count) (h .block))
+    (shows-finished lent posts blocks waiting p (h .number) (h .filled) (h .begun one) (h .told) one (omega (arith, h .few)) (p .draft .tally .waiting) (p .draft .block) (h .count) (h .block))

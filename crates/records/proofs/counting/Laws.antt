@@ -18,7 +18,7 @@ use Rattle.writer.specs.Calls as calls
 use Rattle.writer.specs.Frame.{placed}
 use Rattle.writer.specs.Page as pages
 use Rattle.writer.specs.Page.{Page}
-use Rattle.writer.specs.Tally.{setUpChecks, postAnswer, turned, posted, ended, setUp, setUpOn, postOn, Sound, Counts}
+use Rattle.writer.specs.Tally.{setUpChecks, postAnswer, finished, posted, ended, setUp, setUpOn, postOn, Sound, Counts}
 use Rattle.writer.specs.declared.tally.Tally.{Tally}
 use Rattle.writer.proofs.frame.Laws.{placed-long, placed-out}
 use Rattle.records.specs.Counting.{recordCounted}
@@ -102,7 +102,7 @@ posted-reached p s = go (eqb (own p .waiting) 9) refl
   where
     go : (b : Bool) → eqb (own p .waiting) 9 ≡ b
         → Reached (length (p .bytes)) (posted (own p))
-        (cond b (pages.turned p 10 (pages.withPost (p .draft) s)) (pages.pageOf (p .bytes) (p .filled) (pages.draftOf (posted (own p)) (pages.withPost (p .draft) s))))
+        (cond b (pages.finished p 10 (pages.withPost (p .draft) s)) (pages.pageOf (p .bytes) (p .filled) (pages.draftOf (posted (own p)) (pages.withPost (p .draft) s))))
     go true e = record { long = length-placed (p .bytes) (p .filled) _; tally = rw e }
     go false e = record { long = refl; tally = refl }
 
@@ -110,7 +110,7 @@ ended-reached : (p : Page) → Reached (length (p .bytes)) (ended (own p)) (page
 unfolding pages.ended ended
 ended-reached p = go (eqb (own p .waiting) 0)
   where
-    go : (b : Bool) → Reached (length (p .bytes)) (cond b (own p) (turned (own p))) (cond b p (pages.turned p (own p .waiting) (p .draft .block)))
+    go : (b : Bool) → Reached (length (p .bytes)) (cond b (own p) (finished (own p))) (cond b p (pages.finished p (own p .waiting) (p .draft .block)))
     go true = record { long = refl; tally = refl }
     go false = record { long = length-placed (p .bytes) (p .filled) _; tally = refl }
 

@@ -27,7 +27,7 @@ placed-long l at s h =
     ap length (placed-in l at s h)
     ∙ omega (arith, length-append (take at l) (s ++ drop (at + length s) l), length-append s (drop (at + length s) l), length-take-le at l (omega arith), length-drop (at + length s) l)
 
--- a turn of the loop of `put`, and its end
+-- a round of the loop of `put`, and its end
 module _ (l : List ℕ) (at : ℕ) (a m : List ℕ) (i : ℕ) (e : m ≡ paste l at a i) where
   pub paste-more : at + i < length l → i < length a → set m (at + i) (getD a i 0) ≡ paste l at a (i + 1)
   paste-more h k = rw (e, add-one i) (paste-suc l at a i 0 h k)

@@ -18,9 +18,9 @@ use Rattle.layout.specs.declared.verdict.Verdict.{Verdict}
 use Rattle.layout.specs.declared.verdict.Verdict.the-variants.{Accepted, Declined}
 use Rattle.post.specs.Kind.{Row}
 use Rattle.writer.proofs.frame.Laws.{placed-in}
-use Rattle.writer.proofs.tally.Laws.{early, posted-turns, posted-joins, set-up-free, post-begun, end-begun}
+use Rattle.writer.proofs.tally.Laws.{early, posted-finishes, posted-joins, set-up-free, post-begun, end-begun}
 use Rattle.writer.specs.Frame.{placed}
-use Rattle.writer.specs.Page.{Page, pageOf, draftOf, freshDraft, withBlock, withPost, postsBlock, turned, posted, postOn, setUpOn, ended, Sound, Answers}
+use Rattle.writer.specs.Page.{Page, pageOf, draftOf, freshDraft, withBlock, withPost, postsBlock, finished, posted, postOn, setUpOn, ended, Sound, Answers}
 use Rattle.writer.specs.Tally as tally
 use Rattle.writer.specs.Tally.{kindChecks, setUpChecks, postAnswer, Begun, Counts}
 use Rattle.writer.specs.declared.draft.Draft.{Draft}
@@ -107,19 +107,19 @@ module _ {A B : Type 0} (x : A) (y : B) where
   other-taken (declined n) e = let z : _≡_ {A = ℕ} 0 1 = cc in absurd (omega arith)
 
 -- the posts of a block are written
-pub turned-is : (p : Page) (count : ℕ) (block bytes : List ℕ) (q : Tally) (a : Answer Page) → Sound p → a ≡ taken (turned p count block)
-    → q ≡ tally.turned (p .draft .tally) → tally.Sound (length (p .bytes)) q
+pub finished-is : (p : Page) (count : ℕ) (block bytes : List ℕ) (q : Tally) (a : Answer Page) → Sound p → a ≡ taken (finished p count block)
+    → q ≡ tally.finished (p .draft .tally) → tally.Sound (length (p .bytes)) q
     → bytes ≡ placed (p .bytes) (p .filled) (blockOf 3 count (p .draft .tally .blocks) (bodyOf block)) → length bytes ≡ length (p .bytes)
     → Answers p a Accepted (pageOf bytes (p .filled + 512) (freshDraft q))
-turned-is p count block bytes q a sound e t h b size =
+finished-is p count block bytes q a sound e t h b size =
     answered p a (pageOf bytes (p .filled + 512) (freshDraft q))
     (e ∙ ap₂ (λ (x : List ℕ) (y : Tally). taken (pageOf x (p .filled + 512) (freshDraft y))) (sym b) (sym t))
     size (block-sound p bytes q (replicate 512 0) sound size h (ap (λ (x : Tally). x .blocks) t))
 
 module _ (p : Page) (s : List ℕ) where
-  tenth-turns : p .draft .tally .waiting ≡ 9 → posted p s ≡ turned p 10 (withPost (p .draft) s)
+  tenth-finishes : p .draft .tally .waiting ≡ 9 → posted p s ≡ finished p 10 (withPost (p .draft) s)
   unfolding posted
-  tenth-turns e = rw (eq-eqb _ _ e)
+  tenth-finishes e = rw (eq-eqb _ _ e)
 
   other-joins : (p .draft .tally .waiting ≡ 9 → ⊥) → posted p s ≡ pageOf (p .bytes) (p .filled) (draftOf (tally.posted (p .draft .tally)) (withPost (p .draft) s))
   unfolding posted
@@ -156,7 +156,7 @@ module _ (p : Page) (sound : Sound p) (s : List ℕ) where
         → bytes ≡ placed (p .bytes) (p .filled) (blockOf 3 10 (u .blocks) (bodyOf block)) → length bytes ≡ length (p .bytes)
         → Answers p (postOn p s) Accepted (pageOf bytes (p .filled + 512) (freshDraft q))
     tenth-answers bytes block nine w b size =
-        turned-is p 10 block bytes q (postOn p s) sound (post-taken ∙ ap taken (tenth-turns p s nine ∙ ap (turned p 10) (sym w))) (post-is ∙ sym (posted-turns u nine)) (c .sound) b size
+        finished-is p 10 block bytes q (postOn p s) sound (post-taken ∙ ap taken (tenth-finishes p s nine ∙ ap (finished p 10) (sym w))) (post-is ∙ sym (posted-finishes u nine)) (c .sound) b size
 
     -- another
     pub other-answers : (block : List ℕ) → (u .waiting ≡ 9 → ⊥) → block ≡ withPost (p .draft) s → Answers p (postOn p s) Accepted (pageOf (p .bytes) (p .filled) (draftOf q block))
@@ -181,5 +181,5 @@ module _ (p : Page) (sound : Sound p) where
       → Answers p (taken (ended p)) Accepted (pageOf bytes (p .filled + 512) (freshDraft q))
   unfolding ended tally.ended
   end-answers bytes q n c b size =
-      turned-is p (p .draft .tally .waiting) (p .draft .block) bytes q (taken (ended p)) sound (rw (ne-eqb (p .draft .tally .waiting) 0 n))
+      finished-is p (p .draft .tally .waiting) (p .draft .block) bytes q (taken (ended p)) sound (rw (ne-eqb (p .draft .tally .waiting) 0 n))
       (c .after ∙ rw (ne-eqb (p .draft .tally .waiting) 0 n)) (c .sound) b size

@@ -21,7 +21,7 @@ use Rattle.layout.specs.declared.verdict.Verdict.{Verdict}
 use Rattle.layout.specs.declared.verdict.Verdict.the-variants.{Accepted, Declined}
 use Rattle.post.specs.Kind.{Row}
 use Rattle.post.specs.Moves.{wellFormed}
-use Rattle.writer.specs.Tally.{isFree, kindChecks, setUpChecks, mayBegin, postAnswer, turned, posted, ended, outlineAfter, setUp, setUpOn, postOn, Begun, Sound, Counts}
+use Rattle.writer.specs.Tally.{isFree, kindChecks, setUpChecks, mayBegin, postAnswer, finished, posted, ended, outlineAfter, setUp, setUpOn, postOn, Begun, Sound, Counts}
 use Rattle.writer.specs.declared.tally.Tally.{Tally}
 
 -- blocks of 512 bytes that fit into a buffer
@@ -124,9 +124,9 @@ module _ (room : ℕ) (t : Tally) (s : List ℕ) where
       in-turn false f = let g : Accepted ≡ Declined (record { number = 4 }) = e ∙ ap verdictOf (out-of-turn room t s f) in let z : _≡_ {A = ℕ} 0 1 = cc in absurd (omega arith)
 
 module _ (t : Tally) where
-  pub posted-turns : t .waiting ≡ 9 → turned t ≡ posted t
+  pub posted-finishes : t .waiting ≡ 9 → finished t ≡ posted t
   unfolding posted
-  posted-turns e = rw (eq-eqb _ _ e)
+  posted-finishes e = rw (eq-eqb _ _ e)
 
   pub posted-joins : (t .waiting ≡ 9 → ⊥) → record { outline = t .outline; waiting = t .waiting + 1; blocks = t .blocks } ≡ posted t
   unfolding posted
@@ -226,8 +226,8 @@ module _ (room : ℕ) (t : Tally) (sound : Sound room t) where
             record { number = free .number; room-left = free .fits; in-turn = in-turn }
         go false e = sound .begun (omega (arith, eqb-false (t .waiting) 0 e))
 
-  turned-sound : Begun room t → Sound room (turned t)
-  turned-sound b =
+  finished-sound : Begun room t → Sound room (finished t)
+  finished-sound b =
       record {
         few = omega arith;
         blocks-few = omega (arith, b .number);
@@ -251,16 +251,16 @@ module _ (room : ℕ) (t : Tally) (sound : Sound room t) where
   pub end-begun : (t .waiting ≡ 0 → ⊥) → Begun room t
   end-begun n = sound .begun (omega (arith, n))
 
-  pub end-turns : (t .waiting ≡ 0 → ⊥) → Counts room t (taken (ended t)) Accepted (turned t)
+  pub end-finishes : (t .waiting ≡ 0 → ⊥) → Counts room t (taken (ended t)) Accepted (finished t)
   unfolding ended
-  end-turns n = record { verdict = refl; after = rw (ne-eqb _ _ n); sound = turned-sound (end-begun n) }
+  end-finishes n = record { verdict = refl; after = rw (ne-eqb _ _ n); sound = finished-sound (end-begun n) }
 
   module _ (s : List ℕ) (accepted : Accepted ≡ verdictOf (postAnswer room t s)) where
     pub post-begun : Begun room t
     post-begun = let z = post-told room t s accepted in begun (z .0) (z .1)
 
-    pub post-turns : t .waiting ≡ 9 → Counts room t (postOn room t s) Accepted (turned t)
-    post-turns e = counted room t (postOn room t s) (posted t) (turned t) (posted-turns t e) (turned-sound post-begun) (post-takes room t s accepted)
+    pub post-finishes : t .waiting ≡ 9 → Counts room t (postOn room t s) Accepted (finished t)
+    post-finishes e = counted room t (postOn room t s) (posted t) (finished t) (posted-finishes t e) (finished-sound post-begun) (post-takes room t s accepted)
 
     pub post-joins : (t .waiting ≡ 9 → ⊥) → Counts room t (postOn room t s) Accepted (record { outline = t .outline; waiting = t .waiting + 1; blocks = t .blocks })
     post-joins n = counted room t (postOn room t s) (posted t) _ (posted-joins t n) (joined-sound post-begun (omega (arith, sound .few, n))) (post-takes room t s accepted)

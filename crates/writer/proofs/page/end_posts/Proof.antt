@@ -37,11 +37,11 @@ returns c = let s = c .before .before .before .before in end-nothing (page s) (s
 end-requires : tie.Need-end-requires
 end-requires c κs = c .before .before .before .before .pre .counted
 
-cast-turn : tie.Need-cast-turn
-cast-turn c = let s = start c in omega (arith, s .pre .counted .few)
+cast-finish : tie.Need-cast-finish
+cast-finish c = let s = start c in omega (arith, s .pre .counted .few)
 
-turn-requires : tie.Need-turn-requires
-turn-requires c κs = let s = start c in end-room (page s) (s .pre) (waits c)
+finish-requires : tie.Need-finish-requires
+finish-requires c κs = let s = start c in end-room (page s) (s .pre) (waits c)
 
 same-length : tie.Need-same-length
 same-length c = search needs
@@ -51,9 +51,9 @@ returns-2 c =
     let r = c .before .before in
     let k = r .before in
     let s = start k in
-    subst (λ (x : Taken). Answers (page s) (taken (ended (page s))) (x .verdict) (pageOf (r .turn .last .0) (x .filled) (x .draft))) (sym (r .turn .ensures .0))
-    (end-answers (page s) (s .pre) (r .turn .last .0) _ (waits k) (counts k) (r .turn .ensures .1) (same-length c))
+    subst (λ (x : Taken). Answers (page s) (taken (ended (page s))) (x .verdict) (pageOf (r .finish .last .0) (x .filled) (x .draft))) (sym (r .finish .ensures .0))
+    (end-answers (page s) (s .pre) (r .finish .last .0) _ (waits k) (counts k) (r .finish .ensures .1) (same-length c))
 
 pub end-posts-spec : {M : Type 1} → statement M
 end-posts-spec =
-    tie.close (tie.spec returns end-requires cast-turn turn-requires same-length returns-2)
+    tie.close (tie.spec returns end-requires cast-finish finish-requires same-length returns-2)

@@ -19,7 +19,7 @@ page s = pageOf (now (s .args .buffer)) (s .args .filled) (s .args .d)
 abbrev start : tie.After-enum-told → tie.Start
 start c = c .before .before .before .before .before .before
 
-abbrev told : tie.After-turn-arg → tie.After-enum-told
+abbrev told : tie.After-finish-arg → tie.After-enum-told
 told c = c .before .before .before .before .before .before .before .before .before
 
 -- the post is counted
@@ -62,8 +62,8 @@ add-put c = omega (arith, start (c .before .before .before .before) .pre .counte
 put-requires : tie.Need-put-requires
 put-requires c κs = search needs
 
-turn-requires : tie.Need-turn-requires
-turn-requires c κs = let k = told c in let s = start k in post-room (page s) (s .pre) (now (s .args .post)) _ (counts k)
+finish-requires : tie.Need-finish-requires
+finish-requires c κs = let k = told c in let s = start k in post-room (page s) (s .pre) (now (s .args .post)) _ (counts k)
 
 same-length : tie.Need-same-length
 same-length c = search needs
@@ -74,9 +74,9 @@ returns-2 c =
     let k = told (r .before) in
     let s = start k in
     let w = r .before .before .before .before .before in
-    subst (λ (x : Taken). Answers (page s) (pages.postOn (page s) (now (s .args .post))) (x .verdict) (pageOf (r .turn .last .0) (x .filled) (x .draft))) (sym (r .turn .ensures .0))
-    (tenth-answers (page s) (s .pre) (now (s .args .post)) (k .before .before .post .result .tally) (counts k) (r .turn .last .0) (w .put .last .0)
-    (r .before .before .if1 .taken) (w .put .ensures) (r .turn .ensures .1) (same-length c))
+    subst (λ (x : Taken). Answers (page s) (pages.postOn (page s) (now (s .args .post))) (x .verdict) (pageOf (r .finish .last .0) (x .filled) (x .draft))) (sym (r .finish .ensures .0))
+    (tenth-answers (page s) (s .pre) (now (s .args .post)) (k .before .before .post .result .tally) (counts k) (r .finish .last .0) (w .put .last .0)
+    (r .before .before .if1 .taken) (w .put .ensures) (r .finish .ensures .1) (same-length c))
 
 returns-3 : tie.Need-returns-3
 returns-3 c =
@@ -97,7 +97,7 @@ take-post-spec =
     mul-put
     add-put
     put-requires
-    turn-requires
+    finish-requires
     same-length
     returns-2
     returns-3)

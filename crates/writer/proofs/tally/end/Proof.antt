@@ -2,21 +2,21 @@ use mathlib.Core.Path.{sym, subst}
 use Rattle.amounts.specs.Decline.{taken}
 use Rattle.writer.specs.Tally.{ended, Counts}
 use Rattle.writer.specs.declared.tally.Counted.{Counted}
-use Rattle.writer.proofs.tally.Laws.{end-none, end-begun, end-turns}
+use Rattle.writer.proofs.tally.Laws.{end-none, end-begun, end-finishes}
 use Rattle.writer.proofs.tally.end.Statement.{statement}
 use Rattle.writer.proofs.tally.end.Tie as tie
 
 returns : tie.Need-returns
 returns c = let s = c .before .before in end-none (s .args .room) (s .args .t) (s .pre) (c .if1 .taken)
 
-turn-requires : tie.Need-turn-requires
-turn-requires c κs = let s = c .before .before in end-begun (s .args .room) (s .args .t) (s .pre) (c .if1 .left) .number
+finish-requires : tie.Need-finish-requires
+finish-requires c κs = let s = c .before .before in end-begun (s .args .room) (s .args .t) (s .pre) (c .if1 .left) .number
 
 returns-2 : tie.Need-returns-2
 returns-2 c =
     let s = c .before .before .before in
-    subst (λ (x : Counted). Counts (s .args .room) (s .args .t) (taken (ended (s .args .t))) (x .verdict) (x .tally)) (sym (c .turn .ensures))
-    (end-turns (s .args .room) (s .args .t) (s .pre) (c .before .if1 .left))
+    subst (λ (x : Counted). Counts (s .args .room) (s .args .t) (taken (ended (s .args .t))) (x .verdict) (x .tally)) (sym (c .finish .ensures))
+    (end-finishes (s .args .room) (s .args .t) (s .pre) (c .before .if1 .left))
 
 pub end-spec : {M : Type 1} → statement M
-end-spec = tie.close (tie.spec returns turn-requires returns-2)
+end-spec = tie.close (tie.spec returns finish-requires returns-2)

@@ -5,7 +5,7 @@ use Rattle.layout.specs.Verdict.{verdictOf}
 use Rattle.layout.specs.declared.verdict.Verdict.the-variants.{Accepted}
 use Rattle.writer.specs.Tally.{postAnswer, postOn, Counts}
 use Rattle.writer.specs.declared.tally.Counted.{Counted}
-use Rattle.writer.proofs.tally.Laws.{refused, post-declines, post-begun, post-turns, post-joins}
+use Rattle.writer.proofs.tally.Laws.{refused, post-declines, post-begun, post-finishes, post-joins}
 use borrow.Author.Needs.{needs}
 use Rattle.writer.proofs.tally.post.Statement.{statement}
 use Rattle.writer.proofs.tally.post.Tie as tie
@@ -34,15 +34,15 @@ returns c =
 enum-told : tie.Need-enum-told
 enum-told c = search needs
 
-turn-requires : tie.Need-turn-requires
-turn-requires c κs = let k = c .before .before in post-begun _ _ (start k .pre) _ (was-accepted k) .number
+finish-requires : tie.Need-finish-requires
+finish-requires c κs = let k = c .before .before in post-begun _ _ (start k .pre) _ (was-accepted k) .number
 
 returns-2 : tie.Need-returns-2
 returns-2 c =
     let k = c .before .before .before in
     let a = start k .args in
-    subst (λ (x : Counted). Counts (a .room) (a .t) (postOn (a .room) (a .t) (now (a .s))) (x .verdict) (x .tally)) (sym (c .turn .ensures))
-    (post-turns (a .room) (a .t) (start k .pre) (now (a .s)) (was-accepted k) (c .before .if1 .taken))
+    subst (λ (x : Counted). Counts (a .room) (a .t) (postOn (a .room) (a .t) (now (a .s))) (x .verdict) (x .tally)) (sym (c .finish .ensures))
+    (post-finishes (a .room) (a .t) (start k .pre) (now (a .s)) (was-accepted k) (c .before .if1 .taken))
 
 add-t10 : tie.Need-add-t10
 add-t10 c = omega (arith, start (c .before .before .before .before) .pre .few)
@@ -61,7 +61,7 @@ post-spec =
     enum-known-d
     returns
     enum-told
-    turn-requires
+    finish-requires
     returns-2
     add-t10
     returns-3)

@@ -4,8 +4,8 @@ use Rattle.layout.specs.declared.verdict.Verdict.the-variants.{Accepted}
 use Rattle.writer.specs.declared.draft.Draft.{Draft}
 use Rattle.writer.specs.declared.page.Taken.{Taken}
 use borrow.Author.Needs.{needs}
-use Rattle.writer.proofs.page.turn.Statement.{statement}
-use Rattle.writer.proofs.page.turn.Tie as tie
+use Rattle.writer.proofs.page.finish.Statement.{statement}
+use Rattle.writer.proofs.page.finish.Tie as tie
 
 put-block-requires : tie.Need-put-block-requires
 put-block-requires c κs = search needs
@@ -21,5 +21,5 @@ returns c =
     let p = c .before .before .before .put-block in
     (ap₂ {C = Taken} (λ (n : ℕ) (x : Draft). record { verdict = Accepted; filled = n; draft = x }) (p .ensures .0) (c .begun .ensures), p .ensures .1)
 
-pub turn-spec : {M : Type 1} → statement M
-turn-spec = tie.close (tie.spec put-block-requires begun-requires same-length returns)
+pub finish-spec : {M : Type 1} → statement M
+finish-spec = tie.close (tie.spec put-block-requires begun-requires same-length returns)
