@@ -3,31 +3,31 @@ ghost use mathlib.Core.Bool.{true, false};
 ghost use mathlib.Core.Path.{_≡_};
 ghost use lib.ListN.{length};
 ghost use Rattle.book.specs.Site.{Sound};
-ghost use Rattle.replay.specs.Record.{Within, isWhole};
-use crate::line;
-use crate::record::Record;
+ghost use Rattle.streams.specs.Record.{Within, isWhole};
 use book::answer::Answered;
 use book::block;
 use book::posts;
 use book::site::Book;
+use crate::line;
 use report::report::report_of;
-use streams::output;
 use streams::output::Output;
+use streams::output;
+use streams::record::Record;
 use streams::trouble;
 
 // The book after a record, and whether another may follow.
-pub(crate) struct Turn {
+pub(crate) struct State {
     pub(crate) book: Book,
     pub(crate) output: Output,
     pub(crate) is_open: bool,
 }
 
-fn closed(b: Book, o: Output) -> Turn
+fn closed(b: Book, o: Output) -> State
     requires { ⌜ Sound b ⌝ }
     ensures { λ r. ⌜ Sound (r .book) ⌝ }
     ensures { λ r. ⌜ r .is_open ≡ false ⌝ }
 {
-    Turn {
+    State {
         book: b,
         output: o,
         is_open: false,
@@ -35,18 +35,18 @@ fn closed(b: Book, o: Output) -> Turn
 }
 
 // Another record may follow where the line was written.
-fn told(b: Book, o: Output) -> Turn
+fn told(b: Book, o: Output) -> State
     requires { ⌜ Sound b ⌝ }
     ensures { λ r. ⌜ Sound (r .book) ⌝ }
 {
-    Turn {
+    State {
         book: b,
         output: o,
         is_open: !output::has_failed(o),
     }
 }
 
-fn malformed(b: Book, o: Output) -> Turn
+fn malformed(b: Book, o: Output) -> State
     requires { ⌜ Sound b ⌝ }
     ensures { λ r. ⌜ Sound (r .book) ⌝ }
     ensures { λ r. ⌜ r .is_open ≡ false ⌝ }
@@ -54,7 +54,7 @@ fn malformed(b: Book, o: Output) -> Turn
     closed(b, output::text(o, b"malformed\n"))
 }
 
-fn answered(o: Output, name: &[u8], a: Answered) -> Turn
+fn answered(o: Output, name: &[u8], a: Answered) -> State
     requires { ⌜ Sound (a .book) ⌝ }
     ensures { λ r. ⌜ Sound (r .book) ⌝ }
 {
@@ -63,7 +63,7 @@ fn answered(o: Output, name: &[u8], a: Answered) -> Turn
     told(book, line::verdict(output::text(o, name), verdict))
 }
 
-fn reported(b: Book, o: Output, place: u8) -> Turn
+fn reported(b: Book, o: Output, place: u8) -> State
     requires { ⌜ Sound b ⌝ }
     ensures { λ r. ⌜ Sound (r .book) ⌝ }
 {
@@ -73,7 +73,7 @@ fn reported(b: Book, o: Output, place: u8) -> Turn
     )
 }
 
-fn call(b: Book, o: Output, tag: u8, s: &[u8]) -> Turn
+fn call(b: Book, o: Output, tag: u8, s: &[u8]) -> State
     requires { ⌜ Sound b ⌝ }
     ensures { λ r. ⌜ Sound (r .book) ⌝ }
 {
@@ -93,7 +93,7 @@ fn call(b: Book, o: Output, tag: u8, s: &[u8]) -> Turn
 }
 
 // What a record that was read answers; a whole one stands in the space.
-pub(crate) fn answer(b: Book, o: Output, r: Record, space: &[u8]) -> Turn
+pub(crate) fn answer(b: Book, o: Output, r: Record, space: &[u8]) -> State
     requires { ⌜ Sound b ⌝ }
     requires { ⌜ Within (length (now space)) r ⌝ }
     ensures { λ t. ⌜ Sound (t .book) ⌝ }

@@ -1,11 +1,11 @@
 // A list of calls from standard input, each on the book that the one before it left: a line for each.
 mod call;
 mod line;
-mod record;
 
 use book::site;
 use streams::input;
 use streams::output;
+use streams::record;
 use streams::trouble;
 
 fn main() {
@@ -18,10 +18,10 @@ fn main() {
         let found = record::next(source, &mut space);
         source = found.input;
         let record = found.record;
-        let turn = call::answer(book, sink, record, &space);
-        book = turn.book;
-        sink = turn.output;
-        is_open = turn.is_open;
+        let state = call::answer(book, sink, record, &space);
+        book = state.book;
+        sink = state.output;
+        is_open = state.is_open;
     }
     if output::has_failed(sink) {
         trouble::unwritten(b"replay");

@@ -1,13 +1,13 @@
 // The records of standard input, one by one, into a lent buffer.
-ghost use Rattle.write.specs.Turn.{Kept};
-use crate::turn;
-use crate::turn::Turn;
+ghost use Rattle.write.specs.Reply.{Kept};
+use crate::reply;
+use crate::reply::State;
 use streams::input;
 use streams::record;
 use writer::page;
 
 // Up to the end of the input or to a malformed record, or to a read that failed.
-pub(crate) fn read_records(buffer: &mut [u8]) -> Turn
+pub(crate) fn read_records(buffer: &mut [u8]) -> State
     ensures { λ r. ⌜ Kept (now (buffer .entry)) (now (buffer .exit)) r ⌝ }
 {
     let mut space = io::large_buffer();
@@ -18,12 +18,12 @@ pub(crate) fn read_records(buffer: &mut [u8]) -> Turn
     loop {
         let found = record::next(source, &mut space);
         let record = found.record;
-        let turn = turn::answer(buffer, filled, draft, place, record, &space);
-        if !turn.is_open {
-            return turn;
+        let state = reply::answer(buffer, filled, draft, place, record, &space);
+        if !state.is_open {
+            return state;
         }
-        filled = turn.filled;
-        draft = turn.draft;
+        filled = state.filled;
+        draft = state.draft;
         source = found.input;
         place += 1;
     }

@@ -5,8 +5,8 @@ use native.Mathlib.Omega.{arith}
 use borrow.Author.Needs.{needs}
 use lib.ListN.{length}
 use Rattle.book.specs.Site.{Sound}
-use Rattle.replay.specs.Record.{Within}
-use Rattle.replay.proofs.record.Laws.{toFollow, fewer-follow}
+use Rattle.streams.specs.Record.{Within}
+use Rattle.streams.proofs.record.Laws.{toFollow, fewer-follow}
 use Rattle.replay.proofs.main.Statement.{statement}
 use Rattle.replay.proofs.main.Tie as tie
 

@@ -4,7 +4,7 @@ use Prim.Native.Nat.{_≤_}
 use native.Mathlib.Omega.{arith}
 use lib.ListN.{length, length-take}
 use borrow.Author.Needs.{needs}
-use Rattle.replay.specs.Record.{isWhole, Within}
+use Rattle.streams.specs.Record.{isWhole, Within}
 use Rattle.replay.proofs.call.answer.Statement.{statement}
 use Rattle.replay.proofs.call.answer.Tie as tie
 

@@ -27,10 +27,10 @@ same n = n .before .before .loop .inv .2 ∙ sym (n .next .ensures .same-length)
 abbrev at : tie.After-answer Inv-loop μ-loop → tie.At-loop Inv-loop μ-loop
 at a = a .before .before .before .before .before .before
 
-abbrev turned : tie.Then1 Inv-loop μ-loop → tie.After-answer Inv-loop μ-loop
-turned c = c .before .before .before .before
+abbrev replied : tie.Then1 Inv-loop μ-loop → tie.After-answer Inv-loop μ-loop
+replied c = c .before .before .before .before
 
--- a turn that isn't the last
+-- a reply that isn't the last
 abbrev passed : tie.After-source Inv-loop μ-loop → tie.After-answer Inv-loop μ-loop
 passed c = c .before .before .before .before .before .before
 
@@ -72,11 +72,11 @@ answer-requires c κs =
     (n .before .before .loop .inv .0, subst (λ (k : ℕ). Within k (n .next .result .«record»)) (sym (n .next .ensures .same-length)) (n .next .ensures .within))
 
 same-length : tie.Need-same-length Inv-loop μ-loop
-same-length c = let a = turned c in a .answer .ensures .kept .size ∙ at a .loop .inv .1
+same-length c = let a = replied c in a .answer .ensures .kept .size ∙ at a .loop .inv .1
 
 returns : tie.Need-returns Inv-loop μ-loop
 returns c =
-    let a = turned c in
+    let a = replied c in
     record { sound = a .answer .ensures .kept .sound; size = a .answer .ensures .kept .size ∙ at a .loop .inv .1 }
 
 add-place : tie.Need-add-place Inv-loop μ-loop

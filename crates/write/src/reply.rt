@@ -3,7 +3,7 @@ ghost use mathlib.Core.Path.{_≡_};
 ghost use lib.ListN.{length};
 ghost use Rattle.streams.specs.Record.{Within};
 ghost use Rattle.writer.specs.Page.{pageOf, Sound};
-ghost use Rattle.write.specs.Turn.{closedTurn, Turned, Told};
+ghost use Rattle.write.specs.Reply.{closedState, Replied, Told};
 use amounts::decline::Decline;
 use layout::verdict::Verdict;
 use libc::STDERR_FILENO;
@@ -14,7 +14,7 @@ use writer::draft::Draft;
 use writer::page::Taken;
 
 // The page's filled length and block being filled after a record, whether another may follow, and whether the input could be read.
-pub(crate) struct Turn {
+pub(crate) struct State {
     pub(crate) filled: usize,
     pub(crate) draft: Draft,
     pub(crate) is_open: bool,
@@ -36,7 +36,7 @@ fn tell(place: u64, d: Decline) -> bool {
     true
 }
 
-fn told(place: u64, taken: Taken) -> Turn
+fn told(place: u64, taken: Taken) -> State
     ensures { λ t. ⌜ Told taken t ⌝ }
 {
     let draft = taken.draft;
@@ -45,7 +45,7 @@ fn told(place: u64, taken: Taken) -> Turn
         Verdict::Accepted => true,
         Verdict::Declined(d) => tell(place, d),
     };
-    Turn {
+    State {
         filled: taken.filled,
         draft,
         is_open,
@@ -53,10 +53,10 @@ fn told(place: u64, taken: Taken) -> Turn
     }
 }
 
-fn closed(filled: usize, draft: Draft, read: bool) -> Turn
-    ensures { λ t. ⌜ t ≡ closedTurn filled draft read ⌝ }
+fn closed(filled: usize, draft: Draft, read: bool) -> State
+    ensures { λ t. ⌜ t ≡ closedState filled draft read ⌝ }
 {
-    Turn {
+    State {
         filled,
         draft,
         is_open: false,
@@ -72,10 +72,10 @@ pub(crate) fn answer(
     place: u64,
     r: Record,
     space: &[u8],
-) -> Turn
+) -> State
     requires { ⌜ Sound (pageOf (now buffer) filled d) ⌝ }
     requires { ⌜ Within (length (now space)) r ⌝ }
-    ensures { λ t. ⌜ Turned (now (buffer .entry)) (now (buffer .exit)) r t ⌝ }
+    ensures { λ t. ⌜ Replied (now (buffer .entry)) (now (buffer .exit)) r t ⌝ }
 {
     match r {
         Record::Whole(tag, size) => {

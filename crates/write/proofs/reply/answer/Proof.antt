@@ -5,10 +5,10 @@ use native.Mathlib.Omega.{arith}
 use denote.Ref.{now}
 use lib.ListN.{length, length-take}
 use Rattle.streams.specs.Record.{isWhole, Within}
-use Rattle.write.proofs.turn.Laws.{closed-turned, told-turned}
+use Rattle.write.proofs.reply.Laws.{closed-replied, told-replied}
 use borrow.Author.Needs.{needs}
-use Rattle.write.proofs.turn.answer.Statement.{statement}
-use Rattle.write.proofs.turn.answer.Tie as tie
+use Rattle.write.proofs.reply.answer.Statement.{statement}
+use Rattle.write.proofs.reply.answer.Tie as tie
 
 inside : (k : tie.After-r) → k .r .given .0 .1 .0 ≤ length (k .before .before .before .before .args .space .now)
 inside k = let t = k .before .before .before .before in subst (Within (length (t .args .space .now))) (k .r .given .1) (t .pre .1)
@@ -54,23 +54,23 @@ returns c =
     let k = c .before .before .before in
     let g = k .before .before .before .before in
     let t = g .before .before .before .before in
-    told-turned (now (t .args .buffer)) (k .take-record .last .0) (k .take-record .result) (t .args .r) (c .told .result) (ap isWhole (g .r .given .1)) (c .told .ensures)
+    told-replied (now (t .args .buffer)) (k .take-record .last .0) (k .take-record .result) (t .args .r) (c .told .result) (ap isWhole (g .r .given .1)) (c .told .ensures)
     (k .take-record .ensures .sound) (k .take-record .ensures .size)
 
 returns-2 : tie.Need-returns-2
 returns-2 c =
     let t = c .before .before .before .before .before .before in
-    closed-turned (now (t .args .buffer)) (t .args .filled) (t .args .d) true (t .args .r) (c .closed .result) (c .closed .ensures) (t .pre .0)
+    closed-replied (now (t .args .buffer)) (t .args .filled) (t .args .d) true (t .args .r) (c .closed .result) (c .closed .ensures) (t .pre .0)
 
 returns-3 : tie.Need-returns-3
 returns-3 c =
     let t = c .before .before .before .before .before in
-    closed-turned (now (t .args .buffer)) (t .args .filled) (t .args .d) true (t .args .r) (c .closed2 .result) (c .closed2 .ensures) (t .pre .0)
+    closed-replied (now (t .args .buffer)) (t .args .filled) (t .args .d) true (t .args .r) (c .closed2 .result) (c .closed2 .ensures) (t .pre .0)
 
 returns-4 : tie.Need-returns-4
 returns-4 c =
     let t = c .before .before .before .before .before in
-    closed-turned (now (t .args .buffer)) (t .args .filled) (t .args .d) false (t .args .r) (c .closed3 .result) (c .closed3 .ensures) (t .pre .0)
+    closed-replied (now (t .args .buffer)) (t .args .filled) (t .args .d) false (t .args .r) (c .closed3 .result) (c .closed3 .ensures) (t .pre .0)
 
 pub answer-spec : {M : Type 1} → statement M
 answer-spec =
