@@ -1,9 +1,10 @@
 -- What a new writer over a lent buffer makes of a list of records.
 use Prim.Native.Nat.{ℕ, suc}
+use mathlib.Core.Path.{_≡_}
 use mathlib.Core.List.{List, [], _∷_}
 use Rattle.amounts.specs.Decline.{Answer, taken, declined}
 use Rattle.writer.specs.Page.{Page, freshPage, ended}
-use Rattle.writer.specs.Calls.{answerTo}
+use Rattle.writer.specs.Calls.{Call, answerTo, run, accepted}
 use Rattle.records.specs.Records.{Recorded, call, malformed, recordsIn}
 use Rattle.records.specs.declared.whole.WriteEnd.{WriteEnd}
 use Rattle.records.specs.declared.whole.WriteEnd.the-variants.{Written, Stopped}
@@ -33,6 +34,20 @@ writeAll p place (r ∷ rest) = onward (recordOn p r) place (λ q. writeAll q (s
 -- the records of bytes, written into a lent buffer
 abbrev pub writtenIn : List ℕ → List ℕ → Outcome
 writtenIn lent s = writeAll (freshPage lent) 0 (recordsIn s)
+
+-- ---- records as calls
+
+-- the calls of records, up to a malformed one
+unfoldable pub callsOf : List Recorded → List Call
+callsOf [] = []
+callsOf (call c ∷ rest) = c ∷ callsOf rest
+callsOf (malformed ∷ rest) = []
+
+-- where records are written whole, each of their calls is accepted, and the page is theirs, once ended: what is claimed of a writer's calls holds of it
+abbrev pub WholeIsItsCalls : Type 0
+WholeIsItsCalls =
+    (lent s : List ℕ) (p : Page) → writtenIn lent s ≡ whole p
+    → let calls = callsOf (recordsIn s) in (accepted (freshPage lent) calls ≡ calls) × (p ≡ ended (run (freshPage lent) calls))
 
 -- ---- what the code returns for an outcome, and what it leaves in the buffer
 

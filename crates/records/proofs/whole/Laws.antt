@@ -11,6 +11,8 @@ use Rattle.amounts.specs.Decline.{Answer, taken, declined}
 use Rattle.amounts.specs.declared.decline.Decline.{Decline}
 use Rattle.layout.specs.declared.verdict.Verdict.{Verdict}
 use Rattle.layout.specs.declared.verdict.Verdict.the-variants.{Accepted, Declined}
+use Rattle.writer.proofs.page.Laws.{page-fresh}
+use Rattle.writer.proofs.tally.Laws.{tally-fresh}
 use Rattle.writer.specs.Page.{Page, pageOf, ended, freshDraft, freshPage, Sound, Answers}
 use Rattle.writer.specs.Tally as tallies
 use Rattle.writer.specs.Tally.{freshTally, Counts}
@@ -74,14 +76,6 @@ answers-declined (declined n) d h e = let y = h .verdict in cc
 counts-taken : {room : ℕ} {t u : Tally} (a : Answer Tally) {v : Verdict} → Counts room t a v u → v ≡ Accepted → a ≡ taken u
 counts-taken (taken x) h e = ap taken (sym (h .after))
 counts-taken (declined n) h e = let y = h .verdict in let z : _≡_ {A = ℕ} 0 1 = cc in absurd (omega arith)
-
--- ---- a writer at the start
-
-pub tally-fresh : (room : ℕ) → tallies.Sound room freshTally
-tally-fresh room = record { few = omega arith; «blocks-few» = omega arith; within = omega arith; begun = λ h. absurd (omega arith) }
-
-pub page-fresh : (lent : List ℕ) → Sound (freshPage lent)
-page-fresh lent = record { counted = tally-fresh (length lent); «filled-is» = refl }
 
 -- ---- into a buffer
 

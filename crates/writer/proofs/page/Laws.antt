@@ -18,13 +18,17 @@ use Rattle.layout.specs.declared.verdict.Verdict.{Verdict}
 use Rattle.layout.specs.declared.verdict.Verdict.the-variants.{Accepted, Declined}
 use Rattle.post.specs.Kind.{Row}
 use Rattle.writer.proofs.frame.Laws.{placed-in}
-use Rattle.writer.proofs.tally.Laws.{early, posted-finishes, posted-joins, set-up-free, post-begun, end-begun}
+use Rattle.writer.proofs.tally.Laws.{tally-fresh, early, posted-finishes, posted-joins, set-up-free, post-begun, end-begun}
 use Rattle.writer.specs.Frame.{placed}
-use Rattle.writer.specs.Page.{Page, pageOf, draftOf, freshDraft, withBlock, withPost, postsBlock, finished, posted, postOn, setUpOn, ended, Sound, Answers}
+use Rattle.writer.specs.Page.{Page, pageOf, draftOf, freshDraft, freshPage, withBlock, withPost, postsBlock, finished, posted, postOn, setUpOn, ended, Sound, Answers}
 use Rattle.writer.specs.Tally as tally
 use Rattle.writer.specs.Tally.{kindChecks, setUpChecks, postAnswer, Begun, Counts}
 use Rattle.writer.specs.declared.draft.Draft.{Draft}
 use Rattle.writer.specs.declared.tally.Tally.{Tally}
+
+-- nothing is filled, and no post waits
+pub page-fresh : (lent : List ℕ) → Sound (freshPage lent)
+page-fresh lent = record { counted = tally-fresh (length lent); filled-is = refl }
 
 -- ---- what a call answers, as a record
 

@@ -21,7 +21,7 @@ use Rattle.layout.specs.declared.verdict.Verdict.{Verdict}
 use Rattle.layout.specs.declared.verdict.Verdict.the-variants.{Accepted, Declined}
 use Rattle.post.specs.Kind.{Row}
 use Rattle.post.specs.Moves.{wellFormed}
-use Rattle.writer.specs.Tally.{isFree, kindChecks, setUpChecks, mayBegin, postAnswer, finished, posted, ended, outlineAfter, setUp, setUpOn, postOn, Begun, Sound, Counts}
+use Rattle.writer.specs.Tally.{freshTally, isFree, kindChecks, setUpChecks, mayBegin, postAnswer, finished, posted, ended, outlineAfter, setUp, setUpOn, postOn, Begun, Sound, Counts}
 use Rattle.writer.specs.declared.tally.Tally.{Tally}
 
 -- blocks of 512 bytes that fit into a buffer
@@ -264,3 +264,7 @@ module _ (room : ℕ) (t : Tally) (sound : Sound room t) where
 
     pub post-joins : (t .waiting ≡ 9 → ⊥) → Counts room t (postOn room t s) Accepted (record { outline = t .outline; waiting = t .waiting + 1; blocks = t .blocks })
     post-joins n = counted room t (postOn room t s) (posted t) _ (posted-joins t n) (joined-sound post-begun (omega (arith, sound .few, n))) (post-takes room t s accepted)
+
+-- a new writer's tally, in a buffer of any length
+pub tally-fresh : (room : ℕ) → Sound room freshTally
+tally-fresh room = record { few = omega arith; blocks-few = omega arith; within = omega arith; begun = λ h. absurd (omega (arith, h)) }

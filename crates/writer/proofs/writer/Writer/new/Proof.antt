@@ -47,6 +47,7 @@ use Rattle.writer.specs.Tally.{freshTally}
 use Rattle.writer.specs.Writer.{page}
 use Rattle.writer.specs.declared.draft.Draft.{Draft}
 use Rattle.writer.specs.declared.writer.Writer.{Writer}
+use Rattle.writer.proofs.page.Laws.{page-fresh}
 use Rattle.writer.proofs.Held.{draft-val}
 use Rattle.writer.proofs.draft.Draft as D
 use Rattle.writer.proofs.draft.Draft.Laws as D′
@@ -63,10 +64,6 @@ use Rattle.writer.proofs.writer.Writer.new.Code as code
 
 abbrev stayed : Stays (new.ended .signature .params) (new.ended .kept)
 stayed = (stay-dropped (mutSliceOf (0 ∷ []) tt (plain (λ _. u8))) no, tt)
-
--- nothing is filled, and no post waits
-fresh-sound : (lent : List ℕ) → Sound (freshPage lent)
-fresh-sound lent = record { counted = record { few = lit< tt; blocks-few = omega arith; within = omega arith; begun = λ p. absurd (omega (arith, p)) }; filled-is = refl }
 
 module _ {M : Type 1} (𝓤 : URA M) (H : Heap 𝓤) (A : Atoms 𝓤) (mem : Memory → SProp 𝓤) (run : Routine → Fun 𝓤) where
   -- the contract that the proof cites, and of its `ensured` the clause alone: it has no last value
@@ -106,7 +103,7 @@ module _ {M : Type 1} (𝓤 : URA M) (H : Heap 𝓤) (A : Atoms 𝓤) (W : Given
   exits d is e =
       qed W ((‵ (flft κ q) ⊛ ‵ ftrue) ∷ ‵ (owns (MutSlice (named 0) κ u8 ∷ []) (x, tt) at) ∷ []) ∵
       suffices ! _ (ends-at 𝓤 H A new.ended stayed (new.clauses 𝓤 H A mem run) W (((κ, tt), (q, tt), tt, (x, tt), at), tt) (w d) (made d) (tt, tt) (tt, tt)) $
-      says ! (ap made e, subst (λ (c : Draft). Sound (page (made c))) (sym e) (fresh-sound (x .now))) $
+      says ! (ap made e, subst (λ (c : Draft). Sound (page (made c))) (sym e) (page-fresh (x .now))) $
       frame ! $ fsplit ! $ nothing ! $ move ! (0 ∷ 2 ∷ []) $ fjoin ! $ frame ! $
       -- [what the slice's borrow owns]: with the facts of the number and the draft it is what the struct owns (`Denote/Struct/Rest.antt`)
       nothing ! $ owned ! D.the-row (Is D.the-row) (LL.makes D.the-type D′.the-plain 𝓤 H A) d _ is $ fjoin ! $ owned ! usize (Is usize) (uint-makes 𝓤 H A W w64) 0 _ (refl, lit< tt) $ fjoin ! $
