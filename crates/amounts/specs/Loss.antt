@@ -40,14 +40,14 @@ abbrev pub microgramsOf : Float → ℕ
 microgramsOf x = wholePart (x ⊗ whole (10 ^ 9))
 
 -- 9: the loss exceeds 2,000,000 kg
-unfoldable pub weighedOf : Float → Answer ℕ
+unfoldable pub limitedOf : Float → Answer ℕ
 unfolding checked
-weighedOf x = checked (check (le x (whole 2000000)) excess ∷ []) (microgramsOf x)
+limitedOf x = checked (check (le x (whole 2000000)) excess ∷ []) (microgramsOf x)
 
 -- a form's loss over the row found for its substance
 unfoldable pub lossOf : LossForm → Answer CoefficientRow → Answer ℕ
-unfolding weighedOf
-lossOf form found = onTaken (kgOf form found) weighedOf
+unfolding limitedOf
+lossOf form found = onTaken (kgOf form found) limitedOf
 
 -- "a loss is then declined by 7, 8 and 9 in that order": by a form's number and its floats, over the row found for its substance
 unfoldable pub lossOver : ℕ → Answer CoefficientRow → Float → Float → Float → Float → Answer ℕ

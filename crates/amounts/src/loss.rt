@@ -4,7 +4,7 @@ ghost use lib.Ieee.{Float};
 ghost use Rattle.amounts.specs.Binary64.{valueOf};
 ghost use Rattle.amounts.specs.Coefficient as coefficients;
 ghost use Rattle.amounts.specs.Form.{inForm};
-ghost use Rattle.amounts.specs.Loss.{floatingRoofKg, fixedRoofKg, stationKg, kgOf, weighedOf, lossOf, lossOver, vapourOf, kgAnswer, answer};
+ghost use Rattle.amounts.specs.Loss.{floatingRoofKg, fixedRoofKg, stationKg, kgOf, limitedOf, lossOf, lossOver, vapourOf, kgAnswer, answer};
 use crate::coefficient;
 use crate::coefficient::CoefficientRow;
 use crate::coefficient::Found;
@@ -80,9 +80,9 @@ fn loss_kg(form: LossForm, found: Found) -> Kg
     }
 }
 
-// A loss in kg as micrograms.
-fn weigh(kg: f64) -> Loss
-    ensures { λ r. ⌜ answer r ≡ weighedOf kg ⌝ }
+// A loss in kg as micrograms, up to 2,000,000 kg.
+fn limited(kg: f64) -> Loss
+    ensures { λ r. ⌜ answer r ≡ limitedOf kg ⌝ }
 {
     if kg <= 2000000.0 {
         return Loss::Micrograms(whole::whole_part(kg * 1000000000.0));
@@ -95,7 +95,7 @@ fn loss_of(form: LossForm, found: Found) -> Loss
     ensures { λ r. ⌜ answer r ≡ lossOf form (coefficients.answer found) ⌝ }
 {
     match loss_kg(form, found) {
-        Kg::Value(kg) => weigh(kg),
+        Kg::Value(kg) => limited(kg),
         Kg::Declined(d) => Loss::Declined(d),
     }
 }

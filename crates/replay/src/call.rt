@@ -4,14 +4,14 @@ ghost use mathlib.Core.Path.{_≡_};
 ghost use lib.ListN.{length};
 ghost use Rattle.book.specs.Site.{Sound};
 ghost use Rattle.streams.specs.Record.{Within, isWhole};
+use crate::line;
 use book::answer::Answered;
 use book::block;
 use book::posts;
 use book::site::Book;
-use crate::line;
 use report::report::report_of;
-use streams::output::Output;
 use streams::output;
+use streams::output::Output;
 use streams::record::Record;
 use streams::trouble;
 

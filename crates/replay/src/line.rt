@@ -6,15 +6,15 @@ use report::report::Filing;
 use report::report::Report;
 use report::report::Reported;
 use streams::output::Output;
-use streams::output::decimal;
+use streams::output::number;
 use streams::output::text;
 
 fn field(o: Output, n: u64) -> Output {
-    decimal(text(o, b" "), n)
+    number(text(o, b" "), n)
 }
 
 fn last(o: Output, n: u8) -> Output {
-    text(decimal(o, n as u64), b"\n")
+    text(number(o, n as u64), b"\n")
 }
 
 // 0 where the call was accepted, and else the decline's number.

@@ -31,7 +31,7 @@ pub fn text(o: Output, bytes: &[u8]) -> Output
     }
 }
 
-pub fn decimal(o: Output, n: u64) -> Output
+pub fn number(o: Output, n: u64) -> Output
     ensures { λ r. ⌜ Stays o r ⌝ }
 {
     if o.failed {

@@ -14,7 +14,7 @@ use Rattle.amounts.specs.Binary64.{whole}
 use Rattle.amounts.specs.Decline.{Answer, taken, declined, check, checked, onTaken, layout, range, excess}
 use Rattle.amounts.specs.Coefficient.{rowOf}
 use Rattle.amounts.specs.Form.{stationRanges, inRanges, formOf}
-use Rattle.amounts.specs.Loss.{microgramsOf, kgOf, weighedOf, lossOf, lossOver, vapourOf}
+use Rattle.amounts.specs.Loss.{microgramsOf, kgOf, limitedOf, lossOf, lossOver, vapourOf}
 use Rattle.amounts.specs.Whole.{wholePart}
 use Rattle.amounts.specs.declared.coefficient.CoefficientRow.{CoefficientRow}
 use Rattle.amounts.specs.declared.form.LossForm.{LossForm}
@@ -73,16 +73,16 @@ micrograms-bounded (fin false m e) h =
     (round-mono binary64 (m * up e * 1000000000) (down e * 1) 2000000000000000 1 (mul-pos (down-pos e) (lit< tt)) (lit< tt)
     (scale (m * up e) (down e) (at-most (m * up e * 1) (2000000 * down e) h)))
 
-pub weighed-bounded : (kg : Float) (n : ℕ) → weighedOf kg ≡ taken n → n ≤ 2000000000000000
-unfolding weighedOf
-weighed-bounded kg n e =
+pub limited-bounded : (kg : Float) (n : ℕ) → limitedOf kg ≡ taken n → n ≤ 2000000000000000
+unfolding limitedOf
+limited-bounded kg n e =
     let z = one-taken (le kg (whole 2000000)) excess (microgramsOf kg) n (sym e) in
     rw (z .1) (micrograms-bounded kg (subst T (sym (z .0)) tt))
 
 -- over any row
 pub loss-bounded : (form : LossForm) (found : Answer CoefficientRow) (n : ℕ) → lossOf form found ≡ taken n → n ≤ 2000000000000000
 unfolding lossOf
-loss-bounded form found n e = let z = was-taken (kgOf form found) weighedOf n e in weighed-bounded (z .0) n (z .2)
+loss-bounded form found n e = let z = was-taken (kgOf form found) limitedOf n e in limited-bounded (z .0) n (z .2)
 
 -- by a form's number, over any row
 pub over-bounded : (form : ℕ) (found : Answer CoefficientRow) (w u p q : Float) (n : ℕ) → lossOver form found w u p q ≡ taken n → n ≤ 2000000000000000

@@ -1,7 +1,7 @@
 use mathlib.Core.Path.{_∙_, sym, ap}
 use lib.Ieee.{Float}
 use borrow.Author.Needs.{needs}
-use Rattle.amounts.specs.Loss.{lossOf, kgAnswer, weighedOf}
+use Rattle.amounts.specs.Loss.{lossOf, kgAnswer, limitedOf}
 use Rattle.amounts.specs.Decline.{Answer, onTaken}
 use Rattle.amounts.proofs.loss.loss_of.Statement.{statement}
 use Rattle.amounts.proofs.loss.loss_of.Tie as tie
@@ -12,21 +12,21 @@ loss-kg-requires c κs = search needs
 enum-known-kg : tie.Need-enum-known-kg
 enum-known-kg c = search needs
 
-weigh-requires : tie.Need-weigh-requires
-weigh-requires c κs = search needs
+limited-requires : tie.Need-limited-requires
+limited-requires c κs = search needs
 
 enum-known-d : tie.Need-enum-known-d
 enum-known-d c = search needs
 
 returns : tie.Need-returns
 unfolding lossOf
-returns c = c .weigh .ensures ∙ ap (λ (x : Answer Float). onTaken x weighedOf) (sym (ap kgAnswer (c .before .before .kg .given .1)) ∙ c .before .before .before .before .loss-kg .ensures)
+returns c = c .limited .ensures ∙ ap (λ (x : Answer Float). onTaken x limitedOf) (sym (ap kgAnswer (c .before .before .kg .given .1)) ∙ c .before .before .before .before .loss-kg .ensures)
 
 returns-2 : tie.Need-returns-2
 unfolding lossOf
-returns-2 c = ap (λ (x : Answer Float). onTaken x weighedOf) (sym (ap kgAnswer (c .before .d .given .1)) ∙ c .before .before .before .loss-kg .ensures)
+returns-2 c = ap (λ (x : Answer Float). onTaken x limitedOf) (sym (ap kgAnswer (c .before .d .given .1)) ∙ c .before .before .before .loss-kg .ensures)
 
 pub loss-of-spec : {M : Type 1} → statement M
 loss-of-spec =
     tie.close
-    (tie.spec loss-kg-requires enum-known-kg weigh-requires enum-known-d returns returns-2)
+    (tie.spec loss-kg-requires enum-known-kg limited-requires enum-known-d returns returns-2)

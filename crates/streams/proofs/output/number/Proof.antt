@@ -1,8 +1,8 @@
 use mathlib.Core.Path.{sym, _∙_}
 use mathlib.Core.Bool.{true≢false}
 use borrow.Author.Needs.{needs}
-use Rattle.streams.proofs.output.decimal.Statement.{statement}
-use Rattle.streams.proofs.output.decimal.Tie as tie
+use Rattle.streams.proofs.output.number.Statement.{statement}
+use Rattle.streams.proofs.output.number.Tie as tie
 
 returns : tie.Need-returns
 returns c = search needs
@@ -13,5 +13,5 @@ print-decimal-requires c κs = search needs
 returns-2 : tie.Need-returns-2
 returns-2 c h = absurd (true≢false (sym h ∙ c .before .if1 .left))
 
-pub decimal-spec : {M : Type 1} → statement M
-decimal-spec = tie.close (tie.spec returns print-decimal-requires returns-2)
+pub number-spec : {M : Type 1} → statement M
+number-spec = tie.close (tie.spec returns print-decimal-requires returns-2)
