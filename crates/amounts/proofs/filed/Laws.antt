@@ -3,7 +3,8 @@ use mathlib.Core.Path.{_≡_, refl, sym, ap, _∙_, subst}
 use mathlib.Core.Logic.{_⊎_, inl, inr}
 use mathlib.Core.Bool.{Bool, true, false}
 use Prim.Native.Nat.{ℕ, zero, suc, _+_, _*_, _/_, _%_, _^_, _≤_, _<_}
-use native.Mathlib.Nat.{div-lt-iff-lt-mul, pow-suc, pow-le-pow-right, one-le-pow, mul-div-cancel, mul-add-div-right, div-add-mod', div-eq-of-lt, div-eq-of-lt-le, div-mul-le-self, lt-div-mul-add, mod-lt, le-trans, lt-of-lt-of-le, lt-irrefl, mul-le-mul-right, add-assoc}
+use native.Mathlib.Nat.{div-lt-iff-lt-mul, mul-div-cancel, mul-add-div-right, div-add-mod', div-eq-of-lt, div-eq-of-lt-le, div-mul-le-self, lt-div-mul-add, mod-lt}
+use native.Mathlib.Nat.{pow-suc, pow-le-pow-right, one-le-pow, le-trans, lt-of-lt-of-le, lt-irrefl, mul-le-mul-right, add-assoc}
 use native.Mathlib.Omega.{arith}
 use lib.Dec.{leb, lit<, lit≤}
 use borrow.Author.Tests.{lt-ltb, le-ltb, le-leb, lt-leb, leb-true, leb-false}

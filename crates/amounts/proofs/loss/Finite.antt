@@ -4,7 +4,9 @@ use mathlib.Core.Logic.{_⊎_, inl, inr}
 use mathlib.Core.Bool.{Bool, true, false, not, _&&_, _||_, Bool·beq, cond, true≢false, false≢true}
 use mathlib.Core.List.{List, [], _∷_}
 use Prim.Native.Nat.{ℕ, zero, suc, _+_, _-_, _*_, _^_, _≤_, _<_, zero-le}
-use native.Mathlib.Nat.{le-refl, le-trans, le-of-eq, eq-or-lt-of-le, le-of-lt, lt-irrefl, zero-mul, mul-zero, mul-one, one-mul, mul-assoc, mul-comm, mul-right-comm, mul-mul-mul-comm, mul-le-mul, mul-le-mul-right, le-of-mul-le-mul-right, eq-of-mul-eq-mul-right, mul-pos, zero-lt-suc, pow-succ'}
+use native.Mathlib.Nat.{le-refl, le-trans, le-of-eq, eq-or-lt-of-le, le-of-lt, lt-irrefl, zero-lt-suc, pow-succ'}
+use native.Mathlib.Nat.{zero-mul, mul-zero, mul-one, one-mul, mul-assoc, mul-comm, mul-right-comm, mul-mul-mul-comm}
+use native.Mathlib.Nat.{mul-le-mul, mul-le-mul-right, le-of-mul-le-mul-right, eq-of-mul-eq-mul-right, mul-pos}
 use native.Mathlib.Omega.{arith}
 use lib.IntN.{ℤ}
 use lib.Dec.{T, leb, ltb, eqb, leb→le, le→leb, nleb→lt, ltb→lt, lt→ltb, eqb→eq, eqb-refl, eqb·suc-zero, not-T, lit<, lit≤}

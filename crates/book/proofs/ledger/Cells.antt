@@ -166,7 +166,8 @@ module _ (l sides : List ℕ) (long : length l ≡ 576) where
 
       go : Dec (j ≡ k)
           → (k ≤ 64 → j < k → 1 ≤ account → account < 9 → getD m (at account j) 0 ≡ getD l (at account j) 0 + cond (eqb account (closesTo (getD sides j 0))) (getD l (at held j) 0) 0)
-          → getD (moved m (at held k) (at (closesTo side) k) (getD m (at held k) 0)) (at account j) 0 ≡ getD l (at account j) 0 + cond (eqb account (closesTo (getD sides j 0))) (getD l (at held j) 0) 0
+          → getD (moved m (at held k) (at (closesTo side) k) (getD m (at held k) 0)) (at account j) 0
+          ≡ getD l (at account j) 0 + cond (eqb account (closesTo (getD sides j 0))) (getD l (at held j) 0) 0
       go (yes e) before =
           rw e
           (moved-at m (closesTo side) k (omega arith) (closes-above side) (closes-below side) (stays k) account some

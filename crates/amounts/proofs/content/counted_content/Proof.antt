@@ -21,11 +21,15 @@ counted-from-requires c κs = search needs
 
 returns-3 : tie.Need-returns-3
 unfolding countedOf
-returns-3 c = let k = c .before .before .before in rw (sym (k .before .is-class .ensures) ∙ not-false _ (k .if1 .left), le-leb _ _ (c .before .before .if2 .left), ← c .before .counted-from .ensures, le-leb _ _ (c .if3 .taken))
+returns-3 c =
+    let k = c .before .before .before in
+    rw (sym (k .before .is-class .ensures) ∙ not-false _ (k .if1 .left), le-leb _ _ (c .before .before .if2 .left), ← c .before .counted-from .ensures, le-leb _ _ (c .if3 .taken))
 
 returns-4 : tie.Need-returns-4
 unfolding countedOf
-returns-4 c = let k = c .before .before .before in rw (sym (k .before .is-class .ensures) ∙ not-false _ (k .if1 .left), le-leb _ _ (c .before .before .if2 .left), ← c .before .counted-from .ensures, lt-leb _ _ (c .if3 .left))
+returns-4 c =
+    let k = c .before .before .before in
+    rw (sym (k .before .is-class .ensures) ∙ not-false _ (k .if1 .left), le-leb _ _ (c .before .before .if2 .left), ← c .before .counted-from .ensures, lt-leb _ _ (c .if3 .left))
 
 pub counted-content-spec : {M : Type 1} → statement M
 counted-content-spec =

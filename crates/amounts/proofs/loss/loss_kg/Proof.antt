@@ -28,10 +28,14 @@ station-kg-requires : tie.Need-station-kg-requires
 station-kg-requires c κs = search needs
 
 returns-3 : tie.Need-returns-3
-returns-3 c = rw (c .before .before .before .before .before .form .given .1, is-known (c .before .before .before .before .before .before .before .args .found) (c .before .before .if1 .left), c .floating-roof-kg .ensures)
+returns-3 c =
+    let k = c .before .before .before .before .before in
+    rw (k .form .given .1, is-known (k .before .before .args .found) (c .before .before .if1 .left), c .floating-roof-kg .ensures)
 
 returns-4 : tie.Need-returns-4
-returns-4 c = rw (c .before .before .before .before .before .form2 .given .1, is-known (c .before .before .before .before .before .before .before .args .found) (c .before .before .if2 .left), c .fixed-roof-kg .ensures)
+returns-4 c =
+    let k = c .before .before .before .before .before in
+    rw (k .form2 .given .1, is-known (k .before .before .args .found) (c .before .before .if2 .left), c .fixed-roof-kg .ensures)
 
 returns-5 : tie.Need-returns-5
 returns-5 c = rw (c .before .before .form3 .given .1, c .station-kg .ensures)

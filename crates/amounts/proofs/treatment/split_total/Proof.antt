@@ -38,7 +38,10 @@ sub-t10 c = destroyed-fits c
 
 returns-3 : tie.Need-returns-3
 unfolding splitOf
-returns-3 c = let e = c .before .before in let s = e .before .before in rw (le-leb (s .args .removal) 1000000 (e .before .if1 .left), le-leb (s .args .destruction) 1000000 (e .if2 .left), c .share2 .ensures, c .before .share .ensures)
+returns-3 c =
+    let e = c .before .before in
+    let s = e .before .before in
+    rw (le-leb (s .args .removal) 1000000 (e .before .if1 .left), le-leb (s .args .destruction) 1000000 (e .if2 .left), c .share2 .ensures, c .before .share .ensures)
 
 pub split-total-spec : {M : Type 1} → statement M
 split-total-spec =
