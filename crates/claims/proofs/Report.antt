@@ -1,7 +1,7 @@
 -- What a book's report shows is what stands. Assumes nothing.
-use mathlib.Core.Path.{_≡_, refl, sym, ap, ap₂, subst, _∙_}
+use mathlib.Core.Path.{_≡_, refl, sym, ap, ap₂, _∙_}
 use mathlib.Core.Bool.{Bool, true, false, cond}
-use mathlib.Core.List.{List, [], _∷_}
+use mathlib.Core.List.{List}
 use Prim.Native.Nat.{ℕ, _+_, _-_, _*_, _≤_, _<_}
 use native.Mathlib.Omega.{arith}
 use borrow.Author.Tests.{ne-eqb}
@@ -21,16 +21,16 @@ use Rattle.book.specs.Entry.{enters, handles}
 use Rattle.book.specs.Ledger.{cell, closesTo}
 use Rattle.book.specs.Site.{Sound, bookWith}
 use Rattle.book.specs.declared.site.Book.{Book}
-use Rattle.report.specs.Line.{ratesOf, cellsOf, lineFor, stageLine, lineTo, mapHeadings}
+use Rattle.report.specs.Line.{cellsOf, lineFor, stageLine, lineTo, mapHeadings}
 use Rattle.report.specs.Report.{filingOf, reportAt}
 use Rattle.report.specs.declared.line.Line.{Line}
 use Rattle.report.specs.declared.report.Report.{Report}
 use Rattle.report.proofs.report.Laws.{report-handled, report-entered, headings-fit, figures-within}
 use Rattle.claims.specs.Demand as demand
 use Rattle.claims.specs.Demand.{Balanced}
-use Rattle.claims.specs.Standing.{Standing, numbersOf, classesOf, countedIn, movesOf}
+use Rattle.claims.specs.Standing.{Standing, countedIn, movesOf}
 use Rattle.claims.specs.Weighing.{waterTo, residueTo, sideFor, ratesFor, receives, issues, brought, received, issued, store, formed, handledBy, came}
-use Rattle.claims.specs.Weighing.{left, remains, under, anyCloses, isClosed, heldAt, toGas, toWater, gasTotal, waterTotal, lineOf, reportBy, Weighed}
+use Rattle.claims.specs.Weighing.{remains, under, anyCloses, isClosed, heldAt, toGas, toWater, gasTotal, waterTotal, lineOf, reportBy, Weighed}
 use Rattle.claims.proofs.Setting.{SetBy}
 use Rattle.claims.proofs.State.{cameSum, leftSum, underSum, State, still-open, shut}
 use Rattle.claims.proofs.Sums.{over-two}

@@ -1,13 +1,13 @@
 -- A book is what the accepted calls tell: one relation, which every accepted call keeps. Assumes nothing.
 use mathlib.Core.Path.{_≡_, refl, sym, ap, subst, _∙_}
-use mathlib.Core.Bool.{Bool, true, false, true≢false, cond, not}
+use mathlib.Core.Bool.{true, false, true≢false, not}
 use mathlib.Core.List.{List, [], _∷_, _++_, append-assoc, append-nil, map}
 use Prim.Native.Nat.{ℕ, zero, suc, _+_, _*_, _^_, _≤_, _<_}
 use native.Mathlib.Omega.{arith}
 use borrow.Author.Tests.{eq-eqb, ne-eqb}
 use lib.Dec.{eqb}
 use lib.ListN.{length, getD, length-append}
-use Rattle.amounts.specs.Decline.{Answer, taken, declined, isTaken, valueOr, onTaken}
+use Rattle.amounts.specs.Decline.{Answer, taken, declined, isTaken, valueOr}
 use Rattle.amounts.proofs.decline.Laws.{was-taken}
 use Rattle.layout.specs.Each.{listTo}
 use Rattle.layout.specs.Frame.{blockKind, countOf, bodyOf}
@@ -22,7 +22,6 @@ use Rattle.post.specs.declared.moves.Move.{Move}
 use Rattle.post.proofs.moves.Laws.{move-fits}
 use Rattle.post.proofs.moves.Named.{said-is, move-named}
 use Rattle.book.specs.Entry.{enters, handles, sumsAfter, closes}
-use Rattle.book.specs.Ledger.{cell, total}
 use Rattle.book.specs.Posts.{postOn, takenTo, singleOn}
 use Rattle.book.specs.Site.{SoundSetup, SoundYear, inYear, bookWith, freshBook}
 use Rattle.book.specs.Stage.{withStage}

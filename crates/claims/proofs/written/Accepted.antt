@@ -3,11 +3,10 @@ use mathlib.Core.Path.{_≡_, refl, sym, ap, _∙_}
 use mathlib.Core.Bool.{Bool, true, false, true≢false, cond}
 use mathlib.Core.List.{List, [], _∷_}
 use Prim.Native.Nat.{ℕ, _≤_}
-use native.Mathlib.Omega.{arith}
 use borrow.Author.Tests.{eqb-true, eq-eqb}
 use lib.Dec.{eqb}
 use lib.ListN.{length}
-use Rattle.amounts.specs.Decline.{Answer, taken, declined, Check, check, checked, onTaken, isTaken, outOfTurn, layout, range, noRoom}
+use Rattle.amounts.specs.Decline.{Answer, taken, declined, check, checked, onTaken, isTaken, outOfTurn, layout, range, noRoom}
 use Rattle.amounts.proofs.decline.Laws.{was-taken}
 use Rattle.layout.specs.Frame.{blockOf}
 use Rattle.layout.specs.Outline.{mayPost}

@@ -5,7 +5,7 @@ use mathlib.Core.List.{List, [], _∷_}
 use Prim.Native.Nat.{ℕ, _≤_}
 use native.Mathlib.Omega.{arith}
 use lib.Dec.{eqb}
-use Rattle.amounts.specs.Decline.{Answer, taken, declined, onTaken, valueOr}
+use Rattle.amounts.specs.Decline.{Answer, taken}
 use Rattle.amounts.proofs.decline.Laws.{was-taken}
 use Rattle.layout.specs.declared.outline.Outline.{Outline}
 use Rattle.post.specs.Fields.{postAt}

@@ -8,7 +8,7 @@ use Rattle.amounts.specs.Decline.{Answer, taken, declined, isTaken, valueOr}
 use Rattle.writer.specs.Calls.{Call, answerTo, after, keep, run, accepted}
 use Rattle.writer.specs.Page.{Page, freshPage, ended}
 use Rattle.records.specs.Records.{Recorded, call, malformed, recordsIn}
-use Rattle.records.specs.Whole.{Outcome, whole, stopped, onward, recordOn, writeAll, callsOf, WholeIsItsCalls}
+use Rattle.records.specs.Whole.{Outcome, whole, onward, recordOn, writeAll, callsOf, WholeIsItsCalls}
 
 -- what the page after records is, and that each of their calls is accepted
 abbrev Theirs : Page → Page → List Call → Type 0

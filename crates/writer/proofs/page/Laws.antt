@@ -1,29 +1,25 @@
 -- What a call makes of a page, by what it makes of the tally. Assumes nothing.
 use mathlib.Core.Path.{_≡_, refl, sym, ap, ap₂, subst, _∙_}
-use mathlib.Core.Bool.{Bool, true, false, cond}
 use mathlib.Core.List.{List, _++_}
 use Prim.Native.Nat.{ℕ, _+_, _-_, _*_, _≤_, _<_}
 use native.Mathlib.Omega.{arith}
-use borrow.Author.Tests.{eqb-true, eq-eqb, ne-eqb}
-use lib.Dec.{eqb}
+use borrow.Author.Tests.{eq-eqb, ne-eqb}
 use lib.ListN.{length, take, drop, replicate, length-replicate}
-use lib.Seq.{take-at, drop-at, length-take-le}
-use Rattle.amounts.specs.Decline.{Answer, taken, declined, Check, check, checked, onTaken, valueOr}
+use lib.Seq.{take-at, drop-at}
+use Rattle.amounts.specs.Decline.{Answer, taken, declined, Check, onTaken, valueOr}
 use Rattle.amounts.specs.declared.decline.Decline.{Decline}
 use Rattle.layout.proofs.Checked.{AllPass, passed, pass-both, pass-taken}
 use Rattle.layout.proofs.verdict.Laws.{declines, accepts}
 use Rattle.layout.specs.Frame.{bodyOf, blockOf}
 use Rattle.layout.specs.Verdict.{verdictOf}
-use Rattle.layout.specs.declared.verdict.Verdict.{Verdict}
 use Rattle.layout.specs.declared.verdict.Verdict.the-variants.{Accepted, Declined}
 use Rattle.post.specs.Kind.{Row}
 use Rattle.writer.proofs.frame.Laws.{placed-in}
 use Rattle.writer.proofs.tally.Laws.{tally-fresh, early, posted-finishes, posted-joins, set-up-free, post-begun, end-begun}
 use Rattle.writer.specs.Frame.{placed}
-use Rattle.writer.specs.Page.{Page, pageOf, draftOf, freshDraft, freshPage, withBlock, withPost, postsBlock, finished, posted, postOn, setUpOn, ended, Sound, Answers}
+use Rattle.writer.specs.Page.{Page, pageOf, draftOf, freshDraft, freshPage, withPost, finished, posted, postOn, setUpOn, ended, Sound, Answers}
 use Rattle.writer.specs.Tally as tally
-use Rattle.writer.specs.Tally.{kindChecks, setUpChecks, postAnswer, Begun, Counts}
-use Rattle.writer.specs.declared.draft.Draft.{Draft}
+use Rattle.writer.specs.Tally.{kindChecks, setUpChecks, postAnswer, Counts}
 use Rattle.writer.specs.declared.tally.Tally.{Tally}
 
 -- nothing is filled, and no post waits

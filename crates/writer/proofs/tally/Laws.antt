@@ -4,7 +4,7 @@ use mathlib.Core.Bool.{Bool, true, false, true≢false, cond, not, _&&_}
 use mathlib.Core.List.{List, [], _∷_, _++_}
 use Prim.Native.Nat.{ℕ, _+_, _*_, _/_, _≤_, _<_}
 use native.Mathlib.Omega.{arith}
-use borrow.Author.Tests.{ltb-true, ltb-false, leb-true, eqb-true, eqb-false, le-leb, lt-leb, lt-ltb, le-ltb, eq-eqb, ne-eqb}
+use borrow.Author.Tests.{ltb-true, ltb-false, leb-true, eqb-true, eqb-false, le-leb, lt-leb, eq-eqb, ne-eqb}
 use lib.Dec.{eqb, leb, ltb}
 use lib.ListN.{length}
 use Rattle.amounts.specs.Decline.{Answer, taken, declined, Check, check, checked, onTaken, valueOr, noRoom}
@@ -17,7 +17,6 @@ use Rattle.layout.specs.Setup.{setupChecks}
 use Rattle.layout.specs.Stage.{stageChecks}
 use Rattle.layout.specs.Verdict.{verdictOf}
 use Rattle.layout.specs.declared.outline.Outline.{Outline}
-use Rattle.layout.specs.declared.verdict.Verdict.{Verdict}
 use Rattle.layout.specs.declared.verdict.Verdict.the-variants.{Accepted, Declined}
 use Rattle.post.specs.Kind.{Row}
 use Rattle.post.specs.Moves.{wellFormed}

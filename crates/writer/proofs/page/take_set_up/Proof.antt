@@ -1,4 +1,4 @@
-use mathlib.Core.Path.{_≡_, subst}
+use mathlib.Core.Path.{subst}
 use denote.Ref.{now}
 use lib.ListN.{length}
 use Rattle.layout.specs.declared.verdict.Verdict.{Verdict}
