@@ -7,6 +7,7 @@ use lib.Dec.{eqb}
 use lib.ListN.{length, replicate}
 use Rattle.amounts.specs.Decline.{Answer, taken, checked, onTaken, valueOr}
 use Rattle.layout.specs.Frame.{bodyOf, blockOf}
+use Rattle.layout.specs.Posts.{postSize}
 use Rattle.layout.specs.Verdict.{verdictOf}
 use Rattle.layout.specs.declared.verdict.Verdict.{Verdict}
 use Rattle.writer.specs.Frame.{placed}
@@ -26,7 +27,7 @@ freshDraft t = draftOf t (replicate 512 0)
 
 -- "from byte 8": a post goes behind those that wait
 abbrev pub postPlace : Tally → ℕ
-postPlace t = 8 + t .waiting * 48
+postPlace t = 8 + t .waiting * postSize
 
 abbrev pub withPost : Draft → List ℕ → List ℕ
 withPost d s = placed (d .block) (postPlace (d .tally)) s

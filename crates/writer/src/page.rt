@@ -13,6 +13,7 @@ use crate::draft::Draft;
 use crate::frame;
 use crate::tally;
 use crate::tally::Tally;
+use layout::posts::POST_SIZE;
 use layout::verdict::Verdict;
 
 const BLOCK_SIZE: usize = 512;
@@ -124,7 +125,7 @@ pub fn take_post(buffer: &mut [u8], filled: usize, d: Draft, post: &[u8]) -> Tak
     }
     let tally = told.tally;
     let mut block = d.block;
-    frame::put(&mut block, 8 + t.waiting * 48, post);
+    frame::put(&mut block, 8 + t.waiting * POST_SIZE, post);
     if t.waiting == 9 {
         return finish(buffer, filled, block, 10, t.blocks, tally);
     }
