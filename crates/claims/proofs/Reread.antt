@@ -43,7 +43,7 @@ use Rattle.writer.specs.Page.{Page, freshPage, draftOf, withBlock, setUpOn}
 use Rattle.writer.specs.Tally as tally
 use Rattle.writer.specs.Tally.{isFree, kindChecks}
 use Rattle.claims.specs.Singles.{allTaken}
-use Rattle.claims.specs.Written.{joined, Sheet, ofPosts, sheets, framedFrom, blocksOf, ended}
+use Rattle.claims.specs.Written.{joined, Sheet, ofPosts, sheets, framedFrom, blocksOf, endedCalls}
 use Rattle.claims.specs.Written as written
 use Rattle.claims.specs.Reread.{singly, JournalIsItsCalls, FilingIsOfCalls}
 use Rattle.claims.proofs.written.Claims.{blocks-pass}
@@ -326,9 +326,9 @@ pub journal-is-its-calls : JournalIsItsCalls
 unfolding blocksOf
 journal-is-its-calls lent list b e =
     let cs = accepted (freshPage lent) list in
-    let f = frames 0 freshOutline (blocksOf (ended lent list)) (blocks-pass lent list) in
-    let zero-more : 0 + length (blocksOf (ended lent list)) ≡ length (blocksOf (ended lent list)) = omega arith in
-    ap (readAll freshBook 0) (parts-joined 0 (blocksOf (ended lent list)) f)
+    let f = frames 0 freshOutline (blocksOf (endedCalls lent list)) (blocks-pass lent list) in
+    let zero-more : 0 + length (blocksOf (endedCalls lent list)) ≡ length (blocksOf (endedCalls lent list)) = omega arith in
+    ap (readAll freshBook 0) (parts-joined 0 (blocksOf (endedCalls lent list)) f)
     ∙ reads-all cs (kinds-accepted (freshPage lent) list) freshSetup freshYear freshYear [] 0 0 0 b (joint-none freshSetup freshYear 0 0 (λ t. refl)) f e
     ∙ ap (λ (n : ℕ). read (bookWith (b .setup) (b .year) n)) zero-more
 

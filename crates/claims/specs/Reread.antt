@@ -16,7 +16,7 @@ use Rattle.writer.specs.Calls.{setUp, end, accepted}
 use Rattle.writer.specs.Page.{freshPage}
 use Rattle.claims.specs.Singles.{allTaken}
 use Rattle.claims.specs.Standing.{Call, post, block}
-use Rattle.claims.specs.Written.{joined, blocksOf, ended}
+use Rattle.claims.specs.Written.{joined, blocksOf, endedCalls}
 
 -- "the set-up as framed blocks, each post as a single post": so many set-up blocks came before
 unfoldable pub singly : ℕ → List calls.Call → List Call
@@ -32,13 +32,13 @@ TakesSingly lent list b = allTaken freshBook (singly 0 (accepted (freshPage lent
 
 -- the written journal, once ended
 abbrev pub journalOf : List ℕ → List calls.Call → List ℕ
-journalOf lent list = joined (blocksOf (ended lent list))
+journalOf lent list = joined (blocksOf (endedCalls lent list))
 
 -- ---- 4: "it also takes the written journal, once ended", and is the same book but for its block number
 abbrev pub JournalIsItsCalls : Type 0
 JournalIsItsCalls =
     (lent : List ℕ) (list : List calls.Call) (b : Book) → TakesSingly lent list b
-    → readAll freshBook 0 (partsIn (journalOf lent list)) ≡ read (bookWith (b .setup) (b .year) (length (blocksOf (ended lent list))))
+    → readAll freshBook 0 (partsIn (journalOf lent list)) ≡ read (bookWith (b .setup) (b .year) (length (blocksOf (endedCalls lent list))))
 
 -- ---- 5: what `filing` prints of the journal is what the reports after the posts say
 abbrev pub FilingIsOfCalls : Type 0

@@ -1,5 +1,5 @@
 -- The journal of a list of accepted calls, over their bytes alone, and what is claimed of it (document 02, (a)).
-use Prim.Native.Nat.{ℕ, suc, _<_}
+use Prim.Native.Nat.{ℕ, suc, _≤_, _<_}
 use mathlib.Core.Path.{_≡_}
 use mathlib.Core.Bool.{true, false, cond}
 use mathlib.Core.List.{List, [], _∷_, _++_}
@@ -14,7 +14,7 @@ use Rattle.layout.specs.Posts.{postIn, ownChecks}
 use Rattle.layout.specs.declared.outline.Outline.{Outline}
 use Rattle.post.specs.Moves.{wellFormed}
 use Rattle.writer.specs.Calls.{Call, setUp, post, end, run, accepted}
-use Rattle.writer.specs.Page.{Page, freshPage}
+use Rattle.writer.specs.Page.{Page, freshPage, ended}
 use Rattle.writer.specs.Tally.{kindChecks, outlineAfter}
 
 -- ---- the journal
@@ -56,8 +56,8 @@ unfolding sheets framedFrom
 blocksOf calls = framedFrom 0 (sheets [] calls)
 
 -- the calls of a list that a new writer over a lent buffer accepts, once ended
-abbrev pub ended : List ℕ → List Call → List Call
-ended lent calls = accepted (freshPage lent) calls ++ (end ∷ [])
+abbrev pub endedCalls : List ℕ → List Call → List Call
+endedCalls lent calls = accepted (freshPage lent) calls ++ (end ∷ [])
 
 -- ---- 1: the buffer
 
@@ -65,10 +65,15 @@ ended lent calls = accepted (freshPage lent) calls ++ (end ∷ [])
 pub record Holds (lent journal : List ℕ) (p : Page) : Type 0 where
   pub bytes : p .bytes ≡ journal ++ drop (length journal) lent
   pub filled : p .filled ≡ length journal
+  pub fits : length journal ≤ length lent
 
 abbrev pub WriterHoldsJournal : Type 0
 WriterHoldsJournal =
     (lent : List ℕ) (calls : List Call) → Holds lent (joined (blocksOf (accepted (freshPage lent) calls))) (run (freshPage lent) calls)
+
+-- and so it is once ended
+abbrev pub EndedHoldsJournal : Type 0
+EndedHoldsJournal = (lent : List ℕ) (calls : List Call) → Holds lent (joined (blocksOf (endedCalls lent calls))) (ended (run (freshPage lent) calls))
 
 -- ---- 2: the posts
 
@@ -89,7 +94,7 @@ postsInAll (s ∷ blocks) = postsIn s ++ postsInAll blocks
 -- "the blocks, once ended, hold the same posts in order"
 abbrev pub BlocksHoldPosts : Type 0
 BlocksHoldPosts =
-    (lent : List ℕ) (calls : List Call) → postsInAll (blocksOf (ended lent calls)) ≡ postsTaken (accepted (freshPage lent) calls)
+    (lent : List ℕ) (calls : List Call) → postsInAll (blocksOf (endedCalls lent calls)) ≡ postsTaken (accepted (freshPage lent) calls)
 
 -- ---- 3: the checks that need no book
 
@@ -113,4 +118,4 @@ AllPass place o [] = Unit
 AllPass place o (s ∷ blocks) = Passes place o s × AllPass (suc place) (outlinePast o s) blocks
 
 abbrev pub BlocksPass : Type 0
-BlocksPass = (lent : List ℕ) (calls : List Call) → AllPass 0 freshOutline (blocksOf (ended lent calls))
+BlocksPass = (lent : List ℕ) (calls : List Call) → AllPass 0 freshOutline (blocksOf (endedCalls lent calls))

@@ -18,7 +18,7 @@ pub data Recorded : Type 0 where
 abbrev pub setUpOf : List ℕ → Call
 setUpOf s = setUp (getD s 0 0) (getD s 1 0) (drop 2 s)
 
--- `S`, `P` and `E`, whose bytes are passed over; another tag is malformed
+-- `S` a set-up block, `P` a post, `E` an end; the bytes of an end are passed over, and another tag is malformed
 abbrev pub recordOf : ℕ → List ℕ → Recorded
 recordOf tag s = cond (eqb tag 83) (call (setUpOf s)) (cond (eqb tag 80) (call (post s)) (cond (eqb tag 69) (call end) malformed))
 

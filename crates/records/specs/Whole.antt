@@ -1,7 +1,7 @@
 -- What a new writer over a lent buffer makes of a list of records.
 use Prim.Native.Nat.{ℕ, suc}
 use mathlib.Core.Path.{_≡_}
-use mathlib.Core.List.{List, [], _∷_}
+use mathlib.Core.List.{List, [], _∷_, map}
 use Rattle.amounts.specs.Decline.{Answer, taken, declined}
 use Rattle.writer.specs.Page.{Page, freshPage, ended}
 use Rattle.writer.specs.Calls.{Call, answerTo, run, accepted}
@@ -43,11 +43,13 @@ callsOf [] = []
 callsOf (call c ∷ rest) = c ∷ callsOf rest
 callsOf (malformed ∷ rest) = []
 
--- where records are written whole, each of their calls is accepted, and the page is theirs, once ended: what is claimed of a writer's calls holds of it
+-- where records are written whole, none is malformed, each of their calls is accepted, and the page is theirs, once ended: what is claimed of a writer's calls
+-- holds of it
 abbrev pub WholeIsItsCalls : Type 0
 WholeIsItsCalls =
     (lent s : List ℕ) (p : Page) → writtenIn lent s ≡ whole p
-    → let calls = callsOf (recordsIn s) in (accepted (freshPage lent) calls ≡ calls) × (p ≡ ended (run (freshPage lent) calls))
+    → let calls = callsOf (recordsIn s) in
+    (recordsIn s ≡ map call calls) × (accepted (freshPage lent) calls ≡ calls) × (p ≡ ended (run (freshPage lent) calls))
 
 -- ---- what the code returns for an outcome, and what it leaves in the buffer
 

@@ -3,7 +3,7 @@ ghost use mathlib.Core.Path.{_≡_};
 ghost use lib.ListN.{length};
 ghost use Rattle.streams.specs.Record.{Within};
 ghost use Rattle.writer.specs.Page.{pageOf, Sound};
-ghost use Rattle.write.specs.Reply.{closedState, Replied, Told};
+ghost use Rattle.write.specs.Reply.{closedState, mayFollow, Replied, Told};
 use amounts::decline::Decline;
 use layout::verdict::Verdict;
 use libc::STDERR_FILENO;
@@ -22,7 +22,9 @@ pub(crate) struct State {
 }
 
 // Tells why a record isn't taken. Whether another may follow: behind a malformed one none.
-fn tell(place: u64, d: Decline) -> bool {
+fn tell(place: u64, d: Decline) -> bool
+    ensures { λ r. ⌜ r ≡ mayFollow (d .number) ⌝ }
+{
     io::write_all(STDERR_FILENO, b"record ");
     io::print_decimal(STDERR_FILENO, place);
     let malformed = MALFORMED;
@@ -75,7 +77,7 @@ pub(crate) fn answer(
 ) -> State
     requires { ⌜ Sound (pageOf (now buffer) filled d) ⌝ }
     requires { ⌜ Within (length (now space)) r ⌝ }
-    ensures { λ t. ⌜ Replied (now (buffer .entry)) (now (buffer .exit)) r t ⌝ }
+    ensures { λ t. ⌜ Replied (now (buffer .entry)) (now (buffer .exit)) filled d (now (space .entry)) r t ⌝ }
 {
     match r {
         Record::Whole(tag, size) => {

@@ -13,7 +13,7 @@ use Rattle.layout.specs.Frame.{blockOf}
 use Rattle.writer.specs.Calls.{Call, setUp, post, end, answerTo, run, keep, accepted}
 use Rattle.writer.specs.Page as page
 use Rattle.writer.specs.Page.{Page, freshPage}
-use Rattle.claims.specs.Written.{Sheet, ofPosts, sheets, framedFrom, blocksOf, ended, postsTaken}
+use Rattle.claims.specs.Written.{Sheet, ofPosts, sheets, framedFrom, blocksOf, endedCalls, postsTaken}
 use Rattle.claims.proofs.written.Accepted.{PostTaken, setUpPage, set-up-taken, post-taken}
 use Rattle.claims.proofs.written.Shows.{Shows, shows-fresh}
 use Rattle.claims.proofs.written.Steps.{shows-set-up, shows-tenth, shows-waiting, shows-same, shows-ended}
@@ -142,7 +142,7 @@ module _ (lent : List ℕ) (calls : List Call) where
   shows-run = shows-all lent calls [] [] [] (freshPage lent) (shows-fresh lent)
 
   -- and once ended
-  blocks-ended : blocksBy (blocksOf acc) (waitingAfter [] acc) end ≡ blocksOf (ended lent calls)
+  blocks-ended : blocksBy (blocksOf acc) (waitingAfter [] acc) end ≡ blocksOf (endedCalls lent calls)
   unfolding blocksOf
   blocks-ended =
       let xs : List Sheet = sheets [] acc in
@@ -150,7 +150,7 @@ module _ (lent : List ℕ) (calls : List Call) where
       let long : length (framedFrom 0 xs) ≡ 0 + length xs = omega (arith, framed-long 0 xs) in
       ap (λ (n : ℕ). framedFrom 0 xs ++ framedFrom n ys) long ∙ sym (framed-append 0 xs ys) ∙ ap (framedFrom 0) (sym (sheets-last [] acc end))
 
-  pub shows-run-ended : Shows lent (postsTaken acc) (blocksOf (ended lent calls)) [] (page.ended (run (freshPage lent) calls))
+  pub shows-run-ended : Shows lent (postsTaken acc) (blocksOf (endedCalls lent calls)) [] (page.ended (run (freshPage lent) calls))
   shows-run-ended =
       subst (λ (bs : List (List ℕ)). Shows lent (postsTaken acc) bs [] (page.ended (run (freshPage lent) calls))) blocks-ended
       (shows-end lent (postsTaken acc) (blocksOf acc) (waitingAfter [] acc) (run (freshPage lent) calls) shows-run)

@@ -1,7 +1,7 @@
 -- Records that are written whole are calls that are accepted throughout. Assumes nothing.
 use mathlib.Core.Path.{_≡_, refl, sym, ap, _∙_}
 use mathlib.Core.Bool.{true}
-use mathlib.Core.List.{List, [], _∷_}
+use mathlib.Core.List.{List, [], _∷_, map}
 use Prim.Native.Nat.{ℕ, suc}
 use native.Mathlib.Omega.{arith}
 use Rattle.amounts.specs.Decline.{Answer, taken, declined, isTaken, valueOr}
@@ -37,5 +37,15 @@ calls-are p q place (call c ∷ rest) e =
     one-more p q (h .0) c (callsOf rest) (h .1) (calls-are (h .0) q (suc place) rest (h .2))
 calls-are p q place (malformed ∷ rest) e = let z : _≡_ {A = ℕ} 0 1 = cc in absurd (omega arith)
 
+-- none of them is malformed
+all-calls : (p q : Page) (place : ℕ) (records : List Recorded) → writeAll p place records ≡ whole q → records ≡ map call (callsOf records)
+unfolding writeAll callsOf
+all-calls p q place [] e = refl
+all-calls p q place (call c ∷ rest) e =
+    let h = led-on (recordOn p (call c)) place (λ r. writeAll r (suc place) rest) q e in
+    ap (λ (l : List Recorded). call c ∷ l) (all-calls (h .0) q (suc place) rest (h .2))
+all-calls p q place (malformed ∷ rest) e = let z : _≡_ {A = ℕ} 0 1 = cc in absurd (omega arith)
+
 pub whole-is-its-calls : WholeIsItsCalls
-whole-is-its-calls lent s p e = calls-are (freshPage lent) p 0 (recordsIn s) e
+whole-is-its-calls lent s p e =
+    let h = calls-are (freshPage lent) p 0 (recordsIn s) e in (all-calls (freshPage lent) p 0 (recordsIn s) e, h .0, h .1)

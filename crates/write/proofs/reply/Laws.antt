@@ -6,22 +6,26 @@ use Prim.Native.Nat.{ℕ}
 use lib.ListN.{length}
 use Rattle.streams.specs.Record.{isWhole}
 use Rattle.streams.specs.declared.record.Record.{Record}
-use Rattle.writer.specs.Page.{pageOf, Sound}
+use Rattle.writer.specs.Page.{Page, pageOf, Sound}
 use Rattle.writer.specs.declared.draft.Draft.{Draft}
 use Rattle.writer.specs.declared.page.Taken.{Taken}
-use Rattle.write.specs.Reply.{closedState, Told, Replied}
+use Rattle.write.specs.Reply.{closedState, Told, Replied, madeBy, couldRead}
 use Rattle.write.specs.declared.reply.State.{State}
 
-pub closed-replied : (given : List ℕ) (filled : ℕ) (d : Draft) (read : Bool) (r : Record) (t : State) → t ≡ closedState filled d read → Sound (pageOf given filled d) → Replied given given r t
-closed-replied given filled d read r t e h =
+pub closed-replied : (given : List ℕ) (filled : ℕ) (d : Draft) (read : Bool) (space : List ℕ) (r : Record) (t : State) → t ≡ closedState filled d read → Sound (pageOf given filled d)
+    → pageOf given filled d ≡ madeBy (pageOf given filled d) space r → read ≡ couldRead r → Replied given given filled d space r t
+closed-replied given filled d read space r t e h m c =
     record {
       kept = record { sound = subst (λ (x : State). Sound (pageOf given (x .filled) (x .draft))) (sym e) h; size = refl };
+      made = ap (λ (x : State). pageOf given (x .filled) (x .draft)) e ∙ m;
+      read = ap (λ (x : State). x .«is_read») e ∙ c;
       whole = λ f. absurd (true≢false (sym f ∙ ap (λ (x : State). x .«is_open») e));
     }
 
-pub told-replied : (given after : List ℕ) (taken : Taken) (r : Record) (t : State) → isWhole r ≡ true → Told taken t → Sound (pageOf after (taken .filled) (taken .draft))
-    → length after ≡ length given → Replied given after r t
-told-replied given after taken r t w told h size =
+pub told-replied : (given after : List ℕ) (filled : ℕ) (d : Draft) (space : List ℕ) (taken : Taken) (r : Record) (t : State) → isWhole r ≡ true → couldRead r ≡ true
+    → pageOf after (taken .filled) (taken .draft) ≡ madeBy (pageOf given filled d) space r → Told taken t → Sound (pageOf after (taken .filled) (taken .draft))
+    → length after ≡ length given → Replied given after filled d space r t
+told-replied given after filled d space taken r t w c m told h size =
     record {
       kept =
           record {
@@ -30,5 +34,8 @@ told-replied given after taken r t w told h size =
                 (subst (λ (n : ℕ). Sound (pageOf after n (taken .draft))) (sym (told .filled)) h);
             size = size;
           };
+      made =
+          ap (λ (n : ℕ). pageOf after n (t .draft)) (told .filled) ∙ ap (λ (x : Draft). pageOf after (taken .filled) x) (told .draft) ∙ m;
+      read = told .read ∙ sym c;
       whole = λ _. w;
     }

@@ -1,10 +1,13 @@
-use mathlib.Core.Path.{ap, subst}
+use mathlib.Core.Path.{_≡_, refl, sym, ap, subst, _∙_}
 use mathlib.Core.Bool.{true, false}
 use Prim.Native.Nat.{_≤_}
 use native.Mathlib.Omega.{arith}
 use denote.Ref.{now}
 use lib.ListN.{length, length-take}
 use Rattle.streams.specs.Record.{isWhole, Within}
+use Rattle.streams.specs.declared.record.Record.{Record}
+use Rattle.writer.specs.Page.{Page, pageOf}
+use Rattle.write.specs.Reply.{madeBy, couldRead}
 use Rattle.write.proofs.reply.Laws.{closed-replied, told-replied}
 use borrow.Author.Needs.{needs}
 use Rattle.write.proofs.reply.answer.Statement.{statement}
@@ -54,23 +57,28 @@ returns c =
     let k = c .before .before .before in
     let g = k .before .before .before .before in
     let t = g .before .before .before .before in
-    told-replied (now (t .args .buffer)) (k .take-record .last .0) (k .take-record .result) (t .args .r) (c .told .result) (ap isWhole (g .r .given .1)) (c .told .ensures)
+    let p = pageOf (now (t .args .buffer)) (t .args .filled) (t .args .d) in
+    told-replied (now (t .args .buffer)) (k .take-record .last .0) (t .args .filled) (t .args .d) (now (t .args .space)) (k .take-record .result) (t .args .r) (c .told .result)
+    (ap isWhole (g .r .given .1)) (ap couldRead (g .r .given .1)) (k .take-record .ensures .after ∙ sym (ap (madeBy p (now (t .args .space))) (g .r .given .1))) (c .told .ensures)
     (k .take-record .ensures .sound) (k .take-record .ensures .size)
 
 returns-2 : tie.Need-returns-2
 returns-2 c =
     let t = c .before .before .before .before .before .before in
-    closed-replied (now (t .args .buffer)) (t .args .filled) (t .args .d) true (t .args .r) (c .closed .result) (c .closed .ensures) (t .pre .0)
+    closed-replied (now (t .args .buffer)) (t .args .filled) (t .args .d) true (now (t .args .space)) (t .args .r) (c .closed .result) (c .closed .ensures) (t .pre .0)
+    (sym (ap (madeBy (pageOf (now (t .args .buffer)) (t .args .filled) (t .args .d)) (now (t .args .space))) (c .before .before .enum-told .given .1))) (sym (ap couldRead (c .before .before .enum-told .given .1)))
 
 returns-3 : tie.Need-returns-3
 returns-3 c =
     let t = c .before .before .before .before .before in
-    closed-replied (now (t .args .buffer)) (t .args .filled) (t .args .d) true (t .args .r) (c .closed2 .result) (c .closed2 .ensures) (t .pre .0)
+    closed-replied (now (t .args .buffer)) (t .args .filled) (t .args .d) true (now (t .args .space)) (t .args .r) (c .closed2 .result) (c .closed2 .ensures) (t .pre .0)
+    (sym (ap (madeBy (pageOf (now (t .args .buffer)) (t .args .filled) (t .args .d)) (now (t .args .space))) (c .before .enum-told2 .given .1))) (sym (ap couldRead (c .before .enum-told2 .given .1)))
 
 returns-4 : tie.Need-returns-4
 returns-4 c =
     let t = c .before .before .before .before .before in
-    closed-replied (now (t .args .buffer)) (t .args .filled) (t .args .d) false (t .args .r) (c .closed3 .result) (c .closed3 .ensures) (t .pre .0)
+    closed-replied (now (t .args .buffer)) (t .args .filled) (t .args .d) false (now (t .args .space)) (t .args .r) (c .closed3 .result) (c .closed3 .ensures) (t .pre .0)
+    (sym (ap (madeBy (pageOf (now (t .args .buffer)) (t .args .filled) (t .args .d)) (now (t .args .space))) (c .before .enum-told3 .given .1))) (sym (ap couldRead (c .before .enum-told3 .given .1)))
 
 pub answer-spec : {M : Type 1} → statement M
 answer-spec =
