@@ -5,63 +5,62 @@ use crate::line;
 use crate::sites;
 use book::site;
 
-// A count of substances, and a byte of the good body with what it is changed to.
-struct Case(u8, usize, u8);
-
-const CASES: [Case; 32] = [
+// A count of substances, a byte of the good body and what it is changed to, in three digits each.
+const CASES: [u32; 32] = [
     // The good body as it is, and other counts.
-    Case(2, 0, 2),
-    Case(0, 0, 2),
-    Case(1, 0, 2),
-    Case(3, 0, 2),
-    Case(9, 0, 2),
-    Case(255, 0, 2),
+    2_000_002,
+    0_000_002,
+    1_000_002,
+    3_000_002,
+    9_000_002,
+    255_000_002,
     // Materials: a third and a twelfth without content are taken, and one too few leaves contents in an unused place.
-    Case(2, 0, 0),
-    Case(2, 0, 1),
-    Case(2, 0, 3),
-    Case(2, 0, 12),
-    Case(2, 0, 13),
+    2_000_000,
+    2_000_001,
+    2_000_003,
+    2_000_012,
+    2_000_013,
     // Stages.
-    Case(2, 1, 0),
-    Case(2, 1, 1),
-    Case(2, 1, 8),
-    Case(2, 1, 9),
+    2_001_000,
+    2_001_001,
+    2_001_008,
+    2_001_009,
     // Unused numbers.
-    Case(2, 6, 1),
-    Case(2, 17, 1),
+    2_006_001,
+    2_017_001,
     // Classes, and unused ones.
-    Case(2, 18, 0),
-    Case(2, 18, 2),
-    Case(2, 18, 3),
-    Case(2, 19, 0),
-    Case(2, 19, 1),
-    Case(2, 19, 255),
-    Case(2, 20, 1),
-    Case(2, 25, 2),
+    2_018_000,
+    2_018_002,
+    2_018_003,
+    2_019_000,
+    2_019_001,
+    2_019_255,
+    2_020_001,
+    2_025_002,
     // A ppm more in the first material, which is full.
-    Case(2, 26, 129),
+    2_026_129,
     // A third and an eighth substance, a third and a twelfth material.
-    Case(2, 66, 1),
-    Case(2, 86, 1),
-    Case(2, 90, 1),
-    Case(2, 409, 1),
+    2_066_001,
+    2_086_001,
+    2_090_001,
+    2_409_001,
     // Bytes not named.
-    Case(2, 410, 1),
-    Case(2, 499, 1),
+    2_410_001,
+    2_499_001,
 ];
 
-fn try_case(case: Case) {
+fn try_case(case: u32) {
     let mut body = sites::materials();
-    let at = case.1;
+    let at = (case / 1_000 % 1_000) as usize;
+    let x = (case % 1_000 % 256) as u8;
     if at < 500 {
-        body[at] = case.2;
+        body[at] = x;
     }
     line::text(b"byte");
     line::number(at as u64);
-    line::number(case.2 as u64);
+    line::number(x as u64);
     line::text(b" ");
-    desk::set_up(site::fresh(), case.0, &body);
+    desk::set_up(site::fresh(), (case / 1_000_000 % 256) as u8, &body);
 }
 
 pub(crate) fn cases() {

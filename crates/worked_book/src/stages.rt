@@ -5,42 +5,41 @@ use crate::line;
 use crate::sites;
 use book::site;
 
-// A byte of the good body with what it is changed to.
-struct Case(usize, u8);
-
-const CASES: [Case; 18] = [
+// A byte of the good body, and what it is changed to in three digits.
+const CASES: [u32; 18] = [
     // Where water and residues go.
-    Case(0, 1),
-    Case(0, 0),
-    Case(0, 2),
-    Case(0, 3),
-    Case(1, 0),
-    Case(1, 1),
-    Case(1, 3),
+    0_001,
+    0_000,
+    0_002,
+    0_003,
+    1_000,
+    1_001,
+    1_003,
     // Sides.
-    Case(2, 0),
-    Case(2, 2),
-    Case(2, 3),
-    Case(19, 0),
-    Case(19, 1),
-    Case(19, 255),
+    2_000,
+    2_002,
+    2_003,
+    19_000,
+    19_001,
+    19_255,
     // A third and an eighth substance, and bytes not named.
-    Case(36, 1),
-    Case(37, 1),
-    Case(137, 1),
-    Case(138, 1),
-    Case(499, 1),
+    36_001,
+    37_001,
+    137_001,
+    138_001,
+    499_001,
 ];
 
-fn try_case(case: Case) {
+fn try_case(case: u32) {
     let mut body = sites::stage();
-    let at = case.0;
+    let at = (case / 1_000) as usize;
+    let x = (case % 1_000 % 256) as u8;
     if at < 500 {
-        body[at] = case.1;
+        body[at] = x;
     }
     line::text(b"byte");
     line::number(at as u64);
-    line::number(case.1 as u64);
+    line::number(x as u64);
     line::text(b" ");
     desk::describe(sites::set_up(), 0, &body);
 }
