@@ -16,12 +16,39 @@ ghost use Rattle.book.specs.Site.{Sound};
 use crate::bodies;
 use crate::desk;
 use crate::line;
+use crate::script;
 use book::site;
 use book::site::Book;
 
-const A_HUNDRED: u64 = 0x4059000000000000;
-
-const A_HALF: u64 = 0x3fe0000000000000;
+const ROWS: [u64; 24] = [
+    // The second issue of the first material to the first stage is more than is there.
+    1_000_00000001000000,
+    2_000_00000004000000,
+    2_100_00000002000000,
+    3_000_00000003000000,
+    3_010_00000001000000,
+    3_000_00000002000000,
+    3_110_00000001500000,
+    4_000_00300000000000,
+    // The second post to gas states no content.
+    5_000_0200000_1000000,
+    6_000_0050000_0100000,
+    7_010_0100000_0050000,
+    8_010_0010000_0001000,
+    9_000_0095000_1000000,
+    10_000_0100000_0500000,
+    10_000_0000000_0500000,
+    11_010_0050000_0200000,
+    12_300_13_14_00_00_000000,
+    10_011_0500000_0300000,
+    5_011_0400000_1000000,
+    // What is bought after the close is refused.
+    0,
+    13_000_00000000000000,
+    0,
+    2_000_00000000000001,
+    0,
+];
 
 fn opened() -> Book
     ensures { λ r. ⌜ Sound r ⌝ }
@@ -49,46 +76,7 @@ fn opened() -> Book
     desk::describe(b, 1, &body)
 }
 
-// The second issue of the first material to the first stage is more than is there.
-fn received(mut b: Book) -> Book
-    requires { ⌜ Sound b ⌝ }
-    ensures { λ r. ⌜ Sound r ⌝ }
-{
-    b = desk::post(b, 1, 0, 0, 0, 0, 1_000_000);
-    b = desk::post(b, 2, 0, 0, 0, 0, 4_000_000);
-    b = desk::post(b, 2, 1, 0, 0, 0, 2_000_000);
-    b = desk::post(b, 3, 0, 0, 0, 0, 3_000_000);
-    b = desk::post(b, 3, 0, 1, 0, 0, 1_000_000);
-    b = desk::post(b, 3, 0, 0, 0, 0, 2_000_000);
-    b = desk::post(b, 3, 1, 1, 0, 0, 1_500_000);
-    desk::post(b, 4, 0, 0, 0, 0, 300_000_000_000)
-}
-
-// The second post to gas states no content.
-fn moved(mut b: Book) -> Book
-    requires { ⌜ Sound b ⌝ }
-    ensures { λ r. ⌜ Sound r ⌝ }
-{
-    b = desk::post(b, 5, 0, 0, 0, 200_000, 1_000_000);
-    b = desk::post(b, 6, 0, 0, 0, 50_000, 100_000);
-    b = desk::post(b, 7, 0, 1, 0, 100_000, 50_000);
-    b = desk::post(b, 8, 0, 1, 0, 10_000, 1_000);
-    b = desk::post(b, 9, 0, 0, 0, 95_000, 1_000_000);
-    b = desk::post(b, 10, 0, 0, 0, 100_000, 500_000);
-    b = desk::post(b, 10, 0, 0, 0, 0, 500_000);
-    b = desk::post(b, 11, 0, 1, 0, 50_000, 200_000);
-    b = desk::vapour(b, 3, 0, 0, A_HUNDRED, A_HALF, 0, 0);
-    b = desk::post(b, 10, 0, 1, 1, 500_000, 300_000);
-    desk::post(b, 5, 0, 1, 1, 400_000, 1_000_000)
-}
-
-// What is bought after the close is refused.
 pub(crate) fn list() {
     line::text(b"a list worked from its posts\n");
-    let mut b = moved(received(opened()));
-    desk::reports(b);
-    b = desk::close(b);
-    desk::reports(b);
-    b = desk::post(b, 2, 0, 0, 0, 0, 1);
-    desk::reports(b);
+    script::run(opened(), &ROWS);
 }

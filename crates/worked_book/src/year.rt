@@ -3,30 +3,61 @@ ghost use Rattle.book.specs.Site.{Sound};
 use crate::bodies;
 use crate::desk;
 use crate::line;
+use crate::script;
 use book::site;
 use book::site::Book;
 
-const ONE: u64 = 0x3ff0000000000000;
-
-const VOLUME: u64 = 0x409f400000000000;
-
-const PARTIAL: u64 = 0x4094c80000000000;
-
-const TANK: u64 = 0x40f7f34000000000;
-
-const DIAMETER: u64 = 0x402c000000000000;
-
-const SHARE: u64 = 0x4023cccccccccccd;
-
-const DRAWN: u64 = 0x4097700000000000;
-
-const RECEIVED: u64 = 0x4062c00000000000;
-
-const FILLING: u64 = 0x3f6606317268d328;
-
-const DISPENSED: u64 = 0x4061c00000000000;
-
-const FUELING: u64 = 0x3f6bbc1e28dff31a;
+const ROWS: [u64; 44] = [
+    0,
+    3,
+    // Kinds 1 to 4: into the stores, from them to the stages, and what is formed there.
+    1_000_00000003000000,
+    2_000_00000002000000,
+    2_100_00000004000001,
+    2_200_00000000000500,
+    3_000_00000002500000,
+    3_010_00000001200003,
+    3_100_00000001500007,
+    3_110_00000002000000,
+    3_200_00000000000100,
+    // An opening may come at any time.
+    1_100_00000001000000,
+    0,
+    3,
+    4_002_00700000000000,
+    4_012_00000000000001,
+    4_010_00123456789012,
+    // Kinds 5 to 9. The 5 ppm of 300 and the 999 ppm of 400 are taken as stated.
+    5_000_0450000_1000000,
+    6_001_0000005_0100003,
+    6_010_0123457_0010001,
+    7_010_1000000_0033333,
+    7_001_0020000_0077777,
+    8_011_0009999_0054321,
+    8_000_0000001_0000001,
+    29_002_0000999_0000001,
+    0,
+    3,
+    // Kinds 10 to 12. 80 leaves the first stage by vapour beside its gas: 2,000 m³ at 1,330 of 98,100 Pa. 300 goes through a floating
+    // roof of 14 m, 9.9 % of 1,500 kL. 400 leaves a station that received 150 kL and dispensed 142.
+    10_000_0450001_0200003,
+    10_010_0333333_0099999,
+    10_001_0000071_1000003,
+    10_012_0000007_0000142,
+    11_000_0012345_0067891,
+    11_010_0098765_0432101,
+    11_011_0250000_2000001,
+    11_002_0000030_0070001,
+    12_200_02_03_04_05_000000,
+    12_101_06_07_08_00_000000,
+    12_312_09_10_11_12_000000,
+    0,
+    3,
+    13_000_00000000000000,
+    0,
+    3,
+    4,
+];
 
 // The first material's 9,999 ppm of 300 and 999 ppm of 400 do not count; the third holds nothing.
 fn materials() -> [u8; 500] {
@@ -60,79 +91,7 @@ fn opened() -> Book
     desk::describe(b, 1, &body)
 }
 
-fn reports(b: Book)
-    requires { ⌜ Sound b ⌝ }
-{
-    desk::reports(b);
-    desk::report(b, 2);
-}
-
-// Kinds 1 to 4: into the stores, from them to the stages, and what is formed there.
-fn received(mut b: Book) -> Book
-    requires { ⌜ Sound b ⌝ }
-    ensures { λ r. ⌜ Sound r ⌝ }
-{
-    b = desk::post(b, 1, 0, 0, 0, 0, 3_000_000);
-    b = desk::post(b, 2, 0, 0, 0, 0, 2_000_000);
-    b = desk::post(b, 2, 1, 0, 0, 0, 4_000_001);
-    b = desk::post(b, 2, 2, 0, 0, 0, 500);
-    b = desk::post(b, 3, 0, 0, 0, 0, 2_500_000);
-    b = desk::post(b, 3, 0, 1, 0, 0, 1_200_003);
-    b = desk::post(b, 3, 1, 0, 0, 0, 1_500_007);
-    b = desk::post(b, 3, 1, 1, 0, 0, 2_000_000);
-    b = desk::post(b, 3, 2, 0, 0, 0, 100);
-    // An opening may come at any time.
-    b = desk::post(b, 1, 1, 0, 0, 0, 1_000_000);
-    reports(b);
-    b = desk::post(b, 4, 0, 0, 2, 0, 700_000_000_000);
-    b = desk::post(b, 4, 0, 1, 2, 0, 1);
-    desk::post(b, 4, 0, 1, 0, 0, 123_456_789_012)
-}
-
-// Kinds 5 to 9. The 5 ppm of 300 and the 999 ppm of 400 are taken as stated.
-fn moved(mut b: Book) -> Book
-    requires { ⌜ Sound b ⌝ }
-    ensures { λ r. ⌜ Sound r ⌝ }
-{
-    b = desk::post(b, 5, 0, 0, 0, 450_000, 1_000_000);
-    b = desk::post(b, 6, 0, 0, 1, 5, 100_003);
-    b = desk::post(b, 6, 0, 1, 0, 123_457, 10_001);
-    b = desk::post(b, 7, 0, 1, 0, 1_000_000, 33_333);
-    b = desk::post(b, 7, 0, 0, 1, 20_000, 77_777);
-    b = desk::post(b, 8, 0, 1, 1, 9_999, 54_321);
-    b = desk::post(b, 8, 0, 0, 0, 1, 1);
-    desk::post(b, 9, 0, 0, 2, 999, 300_000_001)
-}
-
-// Kinds 10 to 12. 80 leaves the first stage by vapour beside its gas: 2,000 m³ at 1,330 of 98,100 Pa. 300 goes through a floating
-// roof of 14 m, 9.9 % of 1,500 kL. 400 leaves a station that received 150 kL and dispensed 142.
-fn emitted(mut b: Book) -> Book
-    requires { ⌜ Sound b ⌝ }
-    ensures { λ r. ⌜ Sound r ⌝ }
-{
-    b = desk::post(b, 10, 0, 0, 0, 450_001, 200_003);
-    b = desk::post(b, 10, 0, 1, 0, 333_333, 99_999);
-    b = desk::post(b, 10, 0, 0, 1, 71, 1_000_003);
-    b = desk::post(b, 10, 0, 1, 2, 7, 142);
-    b = desk::post(b, 11, 0, 0, 0, 12_345, 67_891);
-    b = desk::post(b, 11, 0, 1, 0, 98_765, 432_101);
-    b = desk::post(b, 11, 0, 1, 1, 250_000, 2_000_001);
-    b = desk::post(b, 11, 0, 0, 2, 30, 70_001);
-    b = desk::vapour(b, 2, 0, 0, VOLUME, PARTIAL, TANK, ONE);
-    b = desk::vapour(b, 1, 0, 1, DIAMETER, SHARE, DRAWN, 0);
-    desk::vapour(b, 3, 1, 2, RECEIVED, FILLING, DISPENSED, FUELING)
-}
-
 pub(crate) fn whole() {
     line::text(b"a year\n");
-    let mut b = opened();
-    reports(b);
-    b = received(b);
-    b = moved(b);
-    reports(b);
-    b = emitted(b);
-    reports(b);
-    b = desk::close(b);
-    reports(b);
-    desk::report(b, 3);
+    script::run(opened(), &ROWS);
 }
