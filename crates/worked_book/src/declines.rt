@@ -62,7 +62,7 @@ fn tried_early(mut b: Book)
 {
     desk::reports(b);
     b = desk::post(b, 1, 0, 0, 0, 0, 1);
-    b = desk::close(b);
+    b = desk::post(b, 13, 0, 0, 0, 0, 0);
     b = desk::bytes(b, &[0; 0]);
     desk::reports(b);
 }
@@ -83,7 +83,7 @@ pub(crate) fn closed() {
     let mut b = sites::closed();
     desk::reports(b);
     b = desk::post(b, 1, 0, 0, 0, 0, 1);
-    b = desk::close(b);
+    b = desk::post(b, 13, 0, 0, 0, 0, 0);
     b = desk::bytes(b, &[0; 0]);
     b = desk::bytes(b, &[255; 48]);
     desk::reports(b);

@@ -32,24 +32,6 @@ pub(crate) fn post(b: Book, k: u8, m: u8, t: u8, s: u8, content: u32, quantity: 
     give(b, posts::of(k, m, t, s, content, quantity))
 }
 
-// Form, stage, substance and floats.
-pub(crate) fn vapour(b: Book, form: u8, t: u8, s: u8, w: u64, u: u64, p: u64, q: u64) -> Book
-    requires { ⌜ Sound b ⌝ }
-    ensures { λ r. ⌜ Sound r ⌝ }
-{
-    give(
-        b,
-        posts::with_floats(posts::of(12, form, t, s, 0, 0), w, u, p, q),
-    )
-}
-
-pub(crate) fn close(b: Book) -> Book
-    requires { ⌜ Sound b ⌝ }
-    ensures { λ r. ⌜ Sound r ⌝ }
-{
-    post(b, 13, 0, 0, 0, 0, 0)
-}
-
 // A post of any bytes, named by how many they are.
 pub(crate) fn bytes(b: Book, s: &[u8]) -> Book
     requires { ⌜ Sound b ⌝ }

@@ -56,15 +56,6 @@ pub(crate) fn of(
     }
 }
 
-pub(crate) fn with_floats(given: Post, w: u64, u: u64, p: u64, q: u64) -> Post {
-    let mut out = given;
-    out.w = w;
-    out.u = u;
-    out.p = p;
-    out.q = q;
-    out
-}
-
 // A post of each kind that the book of `sites` takes.
 pub(crate) fn good(kind: u8) -> Post {
     if kind <= 4 {

@@ -131,14 +131,12 @@ fn post_of(x: u64) -> Post {
         return posts::of((op % 20) as u8, m, t, s, content, value(rest));
     }
     if op == 12 {
-        let p = posts::of(12, m, t, s, 0, 0);
-        return posts::with_floats(
-            p,
-            value(rest / 1_000_000_000_000),
-            value(rest / 10_000_000_000),
-            value(rest / 100_000_000),
-            value(rest / 1_000_000),
-        );
+        let mut p = posts::of(12, m, t, s, 0, 0);
+        p.w = value(rest / 1_000_000_000_000);
+        p.u = value(rest / 10_000_000_000);
+        p.p = value(rest / 100_000_000);
+        p.q = value(rest / 1_000_000);
+        return p;
     }
     if op >= 5 && op <= 11 {
         return posts::of((op % 20) as u8, m, t, s, content, rest % 10_000_000);
@@ -146,22 +144,16 @@ fn post_of(x: u64) -> Post {
     posts::of((op % 20) as u8, m, t, s, 0, rest)
 }
 
-fn shown(b: Book, x: u64)
-    requires { ⌜ Sound b ⌝ }
-{
-    if x == 0 {
-        desk::reports(b);
-    } else {
-        desk::report(b, (x - 1) as usize);
-    }
-}
-
 fn one(b: Book, x: u64) -> Book
     requires { ⌜ Sound b ⌝ }
     ensures { λ r. ⌜ Sound r ⌝ }
 {
+    if x == 0 {
+        desk::reports(b);
+        return b;
+    }
     if x < 100 {
-        shown(b, x);
+        desk::report(b, (x - 1) as usize);
         return b;
     }
     if x < 10_000_000_000 {

@@ -72,9 +72,10 @@ pub(crate) fn cases() {
     }
 }
 
-fn numbered(first: u16, second: u16) {
-    let body = bodies::substance(sites::materials(), 0, first, 1);
-    let body = bodies::substance(body, 1, second, 2);
+fn numbered(first: u32, second: u32) {
+    let mut body = sites::materials();
+    bodies::put32(&mut body, 2, first);
+    bodies::put32(&mut body, 4, second);
     line::text(b"numbers");
     line::number(first as u64);
     line::number(second as u64);
@@ -84,8 +85,9 @@ fn numbered(first: u16, second: u16) {
 
 // The contents of the second material.
 fn containing(first: u32, second: u32) {
-    let body = bodies::content(sites::materials(), 1, 0, first);
-    let body = bodies::content(body, 1, 1, second);
+    let mut body = sites::materials();
+    bodies::put32(&mut body, 58, first);
+    bodies::put32(&mut body, 62, second);
     line::text(b"contents");
     line::number(first as u64);
     line::number(second as u64);

@@ -6,6 +6,16 @@ use crate::script;
 use crate::sites;
 use book::site;
 
+const PURE: [u64; 5] = [
+    0_0000000001,
+    1_0000000002,
+    2_0000000080,
+    18_0000000001,
+    26_0001000000,
+];
+
+const UNTREATED: [u64; 3] = [0_0000000001, 1_0000000001, 2_0000000001];
+
 // 14.4 and 14.4 kg from two stages are filed as 29 kg and not as 28. One substance in class 1, pure, and no treatment.
 const TWO_STAGES: [u64; 9] = [
     2_000_00000002000000,
@@ -46,12 +56,10 @@ const THRESHOLDS: [u64; 8] = [
 
 pub(crate) fn two_stages() {
     line::text(b"14.4 and 14.4 kg\n");
-    let body = bodies::substance(bodies::begun(1, 2), 0, 80, 1);
-    let body = bodies::content(body, 0, 0, 1_000_000);
-    let mut b = desk::set_up(site::fresh(), 1, &body);
-    let stage = bodies::treated(bodies::begun(1, 1), 0, 1, 0, 0, 0, 0);
-    b = desk::describe(b, 0, &stage);
-    b = desk::describe(b, 1, &stage);
+    let b = desk::set_up(site::fresh(), 1, &bodies::of(&PURE));
+    let stage = bodies::of(&UNTREATED);
+    let b = desk::describe(b, 0, &stage);
+    let b = desk::describe(b, 1, &stage);
     script::run(b, &TWO_STAGES);
 }
 

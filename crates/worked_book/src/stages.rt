@@ -55,15 +55,11 @@ pub(crate) fn cases() {
 
 // The second substance's rates.
 fn rated(gas: u32, gas_destroyed: u32, water: u32, water_destroyed: u32) {
-    let body = bodies::treated(
-        sites::stage(),
-        1,
-        2,
-        gas,
-        gas_destroyed,
-        water,
-        water_destroyed,
-    );
+    let mut body = sites::stage();
+    bodies::put32(&mut body, 20, gas);
+    bodies::put32(&mut body, 24, gas_destroyed);
+    bodies::put32(&mut body, 28, water);
+    bodies::put32(&mut body, 32, water_destroyed);
     line::text(b"rates");
     line::number(gas as u64);
     line::number(gas_destroyed as u64);

@@ -12,13 +12,48 @@
 //     Second stage: came 750; left 150 to gas, 400 shipped; 200 remain, and close to gas.
 //       Gas 150 + 200 = 350: removed nine tenths, 315, none destroyed; released 35, to air; residue 315, to landfill.
 //     They add up to 750 with the 400 shipped; filed 35 and 320.
-ghost use Rattle.book.specs.Site.{Sound};
 use crate::bodies;
 use crate::desk;
 use crate::line;
 use crate::script;
 use book::site;
-use book::site::Book;
+
+const MATERIALS: [u64; 10] = [
+    0_0000000002,
+    1_0000000002,
+    2_0000000300,
+    4_0000000400,
+    18_0000000001,
+    19_0000000002,
+    26_0000200000,
+    30_0000000999,
+    58_0000009999,
+    62_0000500000,
+];
+
+const FIRST_STAGE: [u64; 9] = [
+    0_0000000001,
+    1_0000000001,
+    2_0000000001,
+    3_0000500000,
+    7_0000250000,
+    11_0000200000,
+    19_0000000002,
+    28_0000750000,
+    32_0000500000,
+];
+
+const SECOND_STAGE: [u64; 9] = [
+    0_0000000002,
+    1_0000000002,
+    2_0000000002,
+    3_0000100000,
+    7_0001000000,
+    11_0000400000,
+    15_0000500000,
+    19_0000000001,
+    20_0000900000,
+];
 
 const ROWS: [u64; 24] = [
     // The second issue of the first material to the first stage is more than is there.
@@ -50,33 +85,10 @@ const ROWS: [u64; 24] = [
     0,
 ];
 
-fn opened() -> Book
-    ensures { λ r. ⌜ Sound r ⌝ }
-{
-    let body = bodies::substance(bodies::begun(2, 2), 0, 300, 1);
-    let body = bodies::substance(body, 1, 400, 2);
-    let body = bodies::content(body, 0, 0, 200_000);
-    let body = bodies::content(body, 0, 1, 999);
-    let body = bodies::content(body, 1, 0, 9_999);
-    let body = bodies::content(body, 1, 1, 500_000);
-    let b = desk::set_up(site::fresh(), 2, &body);
-    let body = bodies::treated(bodies::begun(1, 1), 0, 1, 500_000, 250_000, 200_000, 0);
-    let body = bodies::treated(body, 1, 2, 0, 0, 750_000, 500_000);
-    let b = desk::describe(b, 0, &body);
-    let body = bodies::treated(
-        bodies::begun(2, 2),
-        0,
-        2,
-        100_000,
-        1_000_000,
-        400_000,
-        500_000,
-    );
-    let body = bodies::treated(body, 1, 1, 900_000, 0, 0, 0);
-    desk::describe(b, 1, &body)
-}
-
 pub(crate) fn list() {
     line::text(b"a list worked from its posts\n");
-    script::run(opened(), &ROWS);
+    let b = desk::set_up(site::fresh(), 2, &bodies::of(&MATERIALS));
+    let b = desk::describe(b, 0, &bodies::of(&FIRST_STAGE));
+    let b = desk::describe(b, 1, &bodies::of(&SECOND_STAGE));
+    script::run(b, &ROWS);
 }

@@ -9,6 +9,16 @@ use crate::line;
 use crate::script;
 use book::site;
 
+const MATERIALS: [u64; 5] = [
+    0_0000000001,
+    1_0000000001,
+    2_0000000080,
+    18_0000000001,
+    26_0000450000,
+];
+
+const STAGE: [u64; 3] = [0_0000000001, 1_0000000001, 2_0000000001];
+
 const ROWS: [u64; 8] = [
     1,
     1_000_00000000500000,
@@ -22,10 +32,7 @@ const ROWS: [u64; 8] = [
 
 pub(crate) fn year() {
     line::text(b"xylene\n");
-    let body = bodies::substance(bodies::begun(1, 1), 0, 80, 1);
-    let body = bodies::content(body, 0, 0, 450_000);
-    let mut b = desk::set_up(site::fresh(), 1, &body);
-    let body = bodies::treated(bodies::begun(1, 1), 0, 1, 0, 0, 0, 0);
-    b = desk::describe(b, 0, &body);
+    let b = desk::set_up(site::fresh(), 1, &bodies::of(&MATERIALS));
+    let b = desk::describe(b, 0, &bodies::of(&STAGE));
     script::run(b, &ROWS);
 }

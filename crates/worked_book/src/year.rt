@@ -1,11 +1,67 @@
 // A year of three substances (80 and 300 in class 1, 400 in class 2), three materials and two stages.
-ghost use Rattle.book.specs.Site.{Sound};
 use crate::bodies;
 use crate::desk;
 use crate::line;
 use crate::script;
 use book::site;
-use book::site::Book;
+
+// The first material's 9,999 ppm of 300 and 999 ppm of 400 do not count; the third holds nothing.
+const MATERIALS: [u64; 14] = [
+    0_0000000003,
+    1_0000000002,
+    2_0000000080,
+    4_0000000300,
+    6_0000000400,
+    18_0000000001,
+    19_0000000001,
+    20_0000000002,
+    26_0000450000,
+    30_0000009999,
+    34_0000000999,
+    58_0000010000,
+    62_0000500000,
+    66_0000001000,
+];
+
+// Water to public water, residues off site; 80 and 400 close to gas, 300 to waste water.
+const FIRST_STAGE: [u64; 16] = [
+    0_0000000001,
+    1_0000000001,
+    2_0000000001,
+    3_0000900000,
+    7_0000400000,
+    11_0000500000,
+    15_0000250000,
+    19_0000000002,
+    20_0000333333,
+    24_0000666667,
+    28_0000800000,
+    36_0000000001,
+    37_0000999999,
+    41_0000999999,
+    45_0001000000,
+    49_0000500000,
+];
+
+// Water to the sewer, residues to landfill; 80 and 400 close to waste water, 300 to gas.
+const SECOND_STAGE: [u64; 16] = [
+    0_0000000002,
+    1_0000000002,
+    2_0000000002,
+    3_0000123456,
+    7_0000654321,
+    11_0000700000,
+    15_0000300000,
+    19_0000000001,
+    20_0001000000,
+    24_0001000000,
+    28_0000000001,
+    32_0000000001,
+    36_0000000002,
+    41_0001000000,
+    45_0000500000,
+    49_0000500000,
+];
 
 const ROWS: [u64; 44] = [
     0,
@@ -59,39 +115,10 @@ const ROWS: [u64; 44] = [
     4,
 ];
 
-// The first material's 9,999 ppm of 300 and 999 ppm of 400 do not count; the third holds nothing.
-fn materials() -> [u8; 500] {
-    let body = bodies::begun(3, 2);
-    let body = bodies::substance(body, 0, 80, 1);
-    let body = bodies::substance(body, 1, 300, 1);
-    let body = bodies::substance(body, 2, 400, 2);
-    let body = bodies::content(body, 0, 0, 450_000);
-    let body = bodies::content(body, 0, 1, 9_999);
-    let body = bodies::content(body, 0, 2, 999);
-    let body = bodies::content(body, 1, 0, 10_000);
-    let body = bodies::content(body, 1, 1, 500_000);
-    bodies::content(body, 1, 2, 1_000)
-}
-
-// First stage: water to public water, residues off site; 80 and 400 close to gas, 300 to waste water. Second: water to the sewer,
-// residues to landfill; 80 and 400 close to waste water, 300 to gas.
-fn opened() -> Book
-    ensures { λ r. ⌜ Sound r ⌝ }
-{
-    let mut b = desk::set_up(site::fresh(), 3, &materials());
-    let body = bodies::begun(1, 1);
-    let body = bodies::treated(body, 0, 1, 900_000, 400_000, 500_000, 250_000);
-    let body = bodies::treated(body, 1, 2, 333_333, 666_667, 800_000, 0);
-    let body = bodies::treated(body, 2, 1, 999_999, 999_999, 1_000_000, 500_000);
-    b = desk::describe(b, 0, &body);
-    let body = bodies::begun(2, 2);
-    let body = bodies::treated(body, 0, 2, 123_456, 654_321, 700_000, 300_000);
-    let body = bodies::treated(body, 1, 1, 1_000_000, 1_000_000, 1, 1);
-    let body = bodies::treated(body, 2, 2, 0, 1_000_000, 500_000, 500_000);
-    desk::describe(b, 1, &body)
-}
-
 pub(crate) fn whole() {
     line::text(b"a year\n");
-    script::run(opened(), &ROWS);
+    let b = desk::set_up(site::fresh(), 3, &bodies::of(&MATERIALS));
+    let b = desk::describe(b, 0, &bodies::of(&FIRST_STAGE));
+    let b = desk::describe(b, 1, &bodies::of(&SECOND_STAGE));
+    script::run(b, &ROWS);
 }
