@@ -74,7 +74,7 @@ pub(crate) fn turns() {
     tried_early(sites::set_up());
     line::text(b"a book with one of two stages described\n");
     let stage = sites::stage();
-    tried_early(desk::describe(sites::set_up(), 0, &stage));
+    tried_early(desk::framed(sites::set_up(), 2, 0, &stage));
 }
 
 // 5: a good post, a second close, no bytes, and a post that breaks every rule.

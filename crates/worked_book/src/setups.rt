@@ -60,7 +60,7 @@ fn try_case(case: u32) {
     line::number(at as u64);
     line::number(x as u64);
     line::text(b" ");
-    desk::set_up(site::fresh(), (case / 1_000_000 % 256) as u8, &body);
+    desk::framed(site::fresh(), 1, (case / 1_000_000 % 256) as u8, &body);
 }
 
 pub(crate) fn cases() {
@@ -72,60 +72,55 @@ pub(crate) fn cases() {
     }
 }
 
-fn numbered(first: u32, second: u32) {
+// The substances' numbers, or the contents of the second material.
+fn paired(numbers: bool, first: u32, second: u32) {
     let mut body = sites::materials();
-    bodies::put32(&mut body, 2, first);
-    bodies::put32(&mut body, 4, second);
-    line::text(b"numbers");
+    if numbers {
+        line::text(b"numbers");
+        bodies::put32(&mut body, 2, first);
+        bodies::put32(&mut body, 4, second);
+    } else {
+        line::text(b"contents");
+        bodies::put32(&mut body, 58, first);
+        bodies::put32(&mut body, 62, second);
+    }
     line::number(first as u64);
     line::number(second as u64);
     line::text(b" ");
-    desk::set_up(site::fresh(), 2, &body);
-}
-
-// The contents of the second material.
-fn containing(first: u32, second: u32) {
-    let mut body = sites::materials();
-    bodies::put32(&mut body, 58, first);
-    bodies::put32(&mut body, 62, second);
-    line::text(b"contents");
-    line::number(first as u64);
-    line::number(second as u64);
-    line::text(b" ");
-    desk::set_up(site::fresh(), 2, &body);
+    desk::framed(site::fresh(), 1, 2, &body);
 }
 
 pub(crate) fn pairs() {
-    numbered(1, 2);
-    numbered(0, 81);
-    numbered(81, 81);
-    numbered(82, 81);
+    paired(true, 1, 2);
+    paired(true, 0, 81);
+    paired(true, 81, 81);
+    paired(true, 82, 81);
     // The lower byte rises and the number falls; and the other way.
-    numbered(256, 255);
-    numbered(255, 256);
-    numbered(65_534, 65_535);
-    containing(0, 0);
-    containing(1_000_000, 0);
-    containing(1_000_000, 1);
-    containing(1_000_001, 0);
+    paired(true, 256, 255);
+    paired(true, 255, 256);
+    paired(true, 65_534, 65_535);
+    paired(false, 0, 0);
+    paired(false, 1_000_000, 0);
+    paired(false, 1_000_000, 1);
+    paired(false, 1_000_001, 0);
     // Sums past 32 bits.
-    containing(4_294_967_295, 1);
-    containing(2_147_483_648, 2_147_483_648);
+    paired(false, 4_294_967_295, 1);
+    paired(false, 2_147_483_648, 2_147_483_648);
 }
 
 // 6 for a length; 4 once set up, whatever the body, and on a closed book.
 pub(crate) fn turns() {
     let body = sites::materials();
     let mut b = site::fresh();
-    desk::set_up_of(b, 2, &body[0..499]);
-    desk::set_up_of(b, 2, &[0; 501]);
+    desk::unframed(b, 1, 2, &body[0..499]);
+    desk::unframed(b, 1, 2, &[0; 501]);
     desk::reports(b);
-    b = desk::set_up(b, 2, &body);
+    b = desk::framed(b, 1, 2, &body);
     desk::reports(b);
-    b = desk::set_up(b, 2, &body);
-    desk::set_up_of(b, 9, &[0; 0]);
+    b = desk::framed(b, 1, 2, &body);
+    desk::unframed(b, 1, 9, &[0; 0]);
     desk::reports(b);
     line::text(b"closed ");
-    b = desk::set_up(sites::closed(), 2, &body);
+    b = desk::framed(sites::closed(), 1, 2, &body);
     desk::reports(b);
 }

@@ -56,10 +56,10 @@ const THRESHOLDS: [u64; 8] = [
 
 pub(crate) fn two_stages() {
     line::text(b"14.4 and 14.4 kg\n");
-    let b = desk::set_up(site::fresh(), 1, &bodies::of(&PURE));
+    let b = desk::framed(site::fresh(), 1, 1, &bodies::of(&PURE));
     let stage = bodies::of(&UNTREATED);
-    let b = desk::describe(b, 0, &stage);
-    let b = desk::describe(b, 1, &stage);
+    let b = desk::framed(b, 2, 0, &stage);
+    let b = desk::framed(b, 2, 1, &stage);
     script::run(b, &TWO_STAGES);
 }
 

@@ -41,7 +41,7 @@ fn try_case(case: u32) {
     line::number(at as u64);
     line::number(x as u64);
     line::text(b" ");
-    desk::describe(sites::set_up(), 0, &body);
+    desk::framed(sites::set_up(), 2, 0, &body);
 }
 
 pub(crate) fn cases() {
@@ -66,7 +66,7 @@ fn rated(gas: u32, gas_destroyed: u32, water: u32, water_destroyed: u32) {
     line::number(water as u64);
     line::number(water_destroyed as u64);
     line::text(b" ");
-    desk::describe(sites::set_up(), 0, &body);
+    desk::framed(sites::set_up(), 2, 0, &body);
 }
 
 pub(crate) fn rates() {
@@ -81,19 +81,19 @@ pub(crate) fn rates() {
 // 6 for a length; 4 before the set-up, or for another stage than the next, whatever the body; and for a post before the last.
 pub(crate) fn turns() {
     let body = sites::stage();
-    desk::describe(site::fresh(), 0, &body);
+    desk::framed(site::fresh(), 2, 0, &body);
     let mut b = sites::set_up();
-    desk::describe_of(b, 0, &body[0..499]);
-    b = desk::describe(b, 1, &body);
-    b = desk::describe(b, 0, &body);
-    b = desk::describe(b, 0, &body);
-    desk::describe_of(b, 2, &[0; 0]);
+    desk::unframed(b, 2, 0, &body[0..499]);
+    b = desk::framed(b, 2, 1, &body);
+    b = desk::framed(b, 2, 0, &body);
+    b = desk::framed(b, 2, 0, &body);
+    desk::unframed(b, 2, 2, &[0; 0]);
     b = desk::post(b, 1, 0, 0, 0, 0, 1);
     desk::reports(b);
-    b = desk::describe(b, 1, &body);
-    b = desk::describe(b, 2, &body);
+    b = desk::framed(b, 2, 1, &body);
+    b = desk::framed(b, 2, 2, &body);
     b = desk::post(b, 1, 0, 0, 0, 0, 1);
     desk::reports(b);
     line::text(b"closed ");
-    desk::describe(sites::closed(), 2, &body);
+    desk::framed(sites::closed(), 2, 2, &body);
 }

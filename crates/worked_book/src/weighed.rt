@@ -87,8 +87,8 @@ const ROWS: [u64; 24] = [
 
 pub(crate) fn list() {
     line::text(b"a list worked from its posts\n");
-    let b = desk::set_up(site::fresh(), 2, &bodies::of(&MATERIALS));
-    let b = desk::describe(b, 0, &bodies::of(&FIRST_STAGE));
-    let b = desk::describe(b, 1, &bodies::of(&SECOND_STAGE));
+    let b = desk::framed(site::fresh(), 1, 2, &bodies::of(&MATERIALS));
+    let b = desk::framed(b, 2, 0, &bodies::of(&FIRST_STAGE));
+    let b = desk::framed(b, 2, 1, &bodies::of(&SECOND_STAGE));
     script::run(b, &ROWS);
 }

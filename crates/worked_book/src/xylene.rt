@@ -32,7 +32,7 @@ const ROWS: [u64; 8] = [
 
 pub(crate) fn year() {
     line::text(b"xylene\n");
-    let b = desk::set_up(site::fresh(), 1, &bodies::of(&MATERIALS));
-    let b = desk::describe(b, 0, &bodies::of(&STAGE));
+    let b = desk::framed(site::fresh(), 1, 1, &bodies::of(&MATERIALS));
+    let b = desk::framed(b, 2, 0, &bodies::of(&STAGE));
     script::run(b, &ROWS);
 }

@@ -117,8 +117,8 @@ const ROWS: [u64; 44] = [
 
 pub(crate) fn whole() {
     line::text(b"a year\n");
-    let b = desk::set_up(site::fresh(), 3, &bodies::of(&MATERIALS));
-    let b = desk::describe(b, 0, &bodies::of(&FIRST_STAGE));
-    let b = desk::describe(b, 1, &bodies::of(&SECOND_STAGE));
+    let b = desk::framed(site::fresh(), 1, 3, &bodies::of(&MATERIALS));
+    let b = desk::framed(b, 2, 0, &bodies::of(&FIRST_STAGE));
+    let b = desk::framed(b, 2, 1, &bodies::of(&SECOND_STAGE));
     script::run(b, &ROWS);
 }
