@@ -8,7 +8,11 @@ mod splits;
 mod thresholds;
 
 fn main() {
-    losses::show_all();
+    losses::worked();
+    losses::order_and_first_ends();
+    losses::other_ends();
+    losses::odd_floats();
+    losses::declines();
     figures::show_all();
     splits::show_all();
     thresholds::show_all();

@@ -14,8 +14,17 @@ abbrev μ-loop : tie.MeasureT-loop
 loop-holds : tie.Need-loop-holds Inv-loop μ-loop
 loop-holds c = search needs
 
-one-requires : tie.Need-one-requires Inv-loop μ-loop
-one-requires c κs = search needs
+cast-good : tie.Need-cast-good Inv-loop μ-loop
+cast-good c = search needs
+
+good-requires : tie.Need-good-requires Inv-loop μ-loop
+good-requires c κs = search needs
+
+changed-requires : tie.Need-changed-requires Inv-loop μ-loop
+changed-requires c κs = search needs
+
+give-requires : tie.Need-give-requires Inv-loop μ-loop
+give-requires c κs = search needs
 
 add-kind : tie.Need-add-kind Inv-loop μ-loop
 add-kind c = omega arith
@@ -36,7 +45,10 @@ kinds-spec =
     Inv-loop
     μ-loop
     loop-holds
-    one-requires
+    cast-good
+    good-requires
+    changed-requires
+    give-requires
     add-kind
     loop-less
     loop-again
