@@ -1,9 +1,14 @@
-// The bodies of set-up blocks, and the blocks. Of kind 1 the first two bytes are the counts of materials and stages, and substances' numbers stand from 2,
-// their classes from 18 and the materials' contents from 26. Of kind 2 they are where water and residues go, and from 2 each substance has its side and the
-// removal and destruction of its gas and of its water.
-ghost use Prim.Native.Nat.{_+_, _≤_};
+// The bodies of set-up blocks, and the blocks.
+ghost use Prim.Native.Nat.{_+_, _≤_, _<_};
 use layout::frame;
 use layout::frame::CheckSums;
+
+fn put16(body: &mut [u8; 500], at: usize, x: u16)
+    requires { ⌜ at + 2 ≤ 500 ⌝ }
+{
+    body[at] = (x % 256) as u8;
+    body[at + 1] = (x / 256) as u8;
+}
 
 pub(crate) fn put32(body: &mut [u8; 500], at: usize, x: u32)
     requires { ⌜ at + 4 ≤ 500 ⌝ }
@@ -14,21 +19,51 @@ pub(crate) fn put32(body: &mut [u8; 500], at: usize, x: u32)
     body[at + 3] = (x / 16777216) as u8;
 }
 
-fn put_row(body: &mut [u8; 500], row: u64) {
-    let at = (row / 10_000_000_000 % 1_000) as usize;
-    if at < 497 {
-        put32(body, at, (row % 10_000_000_000 % 4294967296) as u32);
-    }
+// The first two bytes: of kind 1 the counts of materials and stages, of kind 2 where water and residues go.
+pub(crate) fn begun(first: u8, second: u8) -> [u8; 500] {
+    let mut body = [0u8; 500];
+    body[0] = first;
+    body[1] = second;
+    body
 }
 
-// A body of rows in the order of its bytes: the byte, and 10 digits of the number that stands from there, in four bytes as far as no row follows.
-pub(crate) fn of(rows: &[u64]) -> [u8; 500] {
-    let mut body = [0u8; 500];
-    let mut i: usize = 0;
-    while i < rows.len() {
-        put_row(&mut body, rows[i]);
-        i += 1;
-    }
+// Kind 1.
+pub(crate) fn substance(given: [u8; 500], place: usize, number: u16, class: u8) -> [u8; 500]
+    requires { ⌜ place < 8 ⌝ }
+{
+    let mut body = given;
+    put16(&mut body, 2 + place * 2, number);
+    body[18 + place] = class;
+    body
+}
+
+pub(crate) fn content(given: [u8; 500], material: usize, place: usize, ppm: u32) -> [u8; 500]
+    requires { ⌜ (material < 12) × (place < 8) ⌝ }
+{
+    let mut body = given;
+    put32(&mut body, 26 + material * 32 + place * 4, ppm);
+    body
+}
+
+// Kind 2: a substance's side, and the removal and destruction of its gas and of its water.
+pub(crate) fn treated(
+    given: [u8; 500],
+    place: usize,
+    side: u8,
+    gas: u32,
+    gas_destroyed: u32,
+    water: u32,
+    water_destroyed: u32,
+) -> [u8; 500]
+    requires { ⌜ place < 8 ⌝ }
+{
+    let mut body = given;
+    let at = 2 + place * 17;
+    body[at] = side;
+    put32(&mut body, at + 1, gas);
+    put32(&mut body, at + 5, gas_destroyed);
+    put32(&mut body, at + 9, water);
+    put32(&mut body, at + 13, water_destroyed);
     body
 }
 

@@ -2,59 +2,11 @@
 ghost use Rattle.book.specs.Site.{Sound};
 use crate::desk;
 use crate::line;
-use crate::script;
 use crate::sites;
 use book::site;
 use book::site::Book;
 
-// 8: forms 1 and 2 of 81, where the loss is 0 too; form 3 needs no row. 9: the floats above 2,000,000 kg, which 2,000,000 kg are not.
-const LOSSES: [u64; 7] = [
-    24_010_0000000_0000015,
-    0,
-    12_101_05_00_00_00_000000,
-    12_201_00_00_05_00_000000,
-    0,
-    12_301_05_05_00_00_000000,
-    0,
-];
-
-const EXCESS: [u64; 5] = [
-    12_310_16_05_00_00_000000,
-    12_310_17_05_05_05_000000,
-    0,
-    12_310_18_05_00_00_000000,
-    0,
-];
-
-// 11: a gram more than the store holds, or a store that holds nothing. All of it may leave.
-const STORES: [u64; 8] = [
-    0,
-    3_000_00000000000601,
-    3_100_00000000000001,
-    3_010_00002000000000,
-    0,
-    3_010_00000000000600,
-    3_010_00000000000001,
-    0,
-];
-
-// 11: each kind that takes from a holding, of which there are 160 g. All of it may leave.
-const HOLDINGS: [u64; 13] = [
-    0,
-    5_000_1000000_0000161,
-    6_000_0160001_0001000,
-    27_000_0000001_0000019,
-    8_010_0000001_0000001,
-    29_011_1000000_0000020,
-    10_000_1000000_0000161,
-    11_001_1000000_0500241,
-    // 0.5 kg.
-    12_300_05_14_00_00_000000,
-    0,
-    5_000_0160000_0001000,
-    5_000_0000001_0000001,
-    0,
-];
+const ONE: u64 = 0x3ff0000000000000;
 
 // 4: a post, the close or no bytes before the last stage is described.
 fn tried_early(mut b: Book)
@@ -62,7 +14,7 @@ fn tried_early(mut b: Book)
 {
     desk::reports(b);
     b = desk::post(b, 1, 0, 0, 0, 0, 1);
-    b = desk::post(b, 13, 0, 0, 0, 0, 0);
+    b = desk::close(b);
     b = desk::bytes(b, &[0; 0]);
     desk::reports(b);
 }
@@ -74,7 +26,7 @@ pub(crate) fn turns() {
     tried_early(sites::set_up());
     line::text(b"a book with one of two stages described\n");
     let stage = sites::stage();
-    tried_early(desk::framed(sites::set_up(), 2, 0, &stage));
+    tried_early(desk::describe(sites::set_up(), 0, &stage));
 }
 
 // 5: a good post, a second close, no bytes, and a post that breaks every rule.
@@ -83,9 +35,61 @@ pub(crate) fn closed() {
     let mut b = sites::closed();
     desk::reports(b);
     b = desk::post(b, 1, 0, 0, 0, 0, 1);
-    b = desk::post(b, 13, 0, 0, 0, 0, 0);
+    b = desk::close(b);
     b = desk::bytes(b, &[0; 0]);
     b = desk::bytes(b, &[255; 48]);
+    desk::reports(b);
+}
+
+// 8: forms 1 and 2 of 81, where the loss is 0 too; form 3 needs no row. 9: the floats above 2,000,000 kg, which 2,000,000 kg are not.
+pub(crate) fn losses() {
+    line::text(b"no coefficient row\n");
+    let mut b = desk::post(sites::standing(), 4, 0, 1, 0, 0, 2_000_000_000_000_000);
+    desk::reports(b);
+    b = desk::vapour(b, 1, 0, 1, ONE, 0, 0, 0);
+    b = desk::vapour(b, 2, 0, 1, 0, 0, ONE, 0);
+    desk::reports(b);
+    b = desk::vapour(b, 3, 0, 1, ONE, ONE, 0, 0);
+    desk::reports(b);
+    line::text(b"losses over 2,000,000 kg\n");
+    b = desk::vapour(b, 3, 1, 0, 0x413e848000000001, ONE, 0, 0);
+    b = desk::vapour(b, 3, 1, 0, 0x41cdcd6500000000, ONE, ONE, ONE);
+    desk::reports(b);
+    b = desk::vapour(b, 3, 1, 0, 0x413e848000000000, ONE, 0, 0);
+    desk::reports(b);
+}
+
+// 11: a gram more than the store holds, or a store that holds nothing. All of it may leave.
+pub(crate) fn stores() {
+    line::text(b"a store holds less\n");
+    let mut b = sites::standing();
+    desk::reports(b);
+    b = desk::post(b, 3, 0, 0, 0, 0, 601);
+    b = desk::post(b, 3, 1, 0, 0, 0, 1);
+    b = desk::post(b, 3, 0, 1, 0, 0, 2_000_000_000);
+    desk::reports(b);
+    b = desk::post(b, 3, 0, 1, 0, 0, 600);
+    b = desk::post(b, 3, 0, 1, 0, 0, 1);
+    desk::reports(b);
+}
+
+// 11: each kind that takes from a holding, of which there are 160 g. All of it may leave.
+pub(crate) fn holdings() {
+    line::text(b"a holding is less\n");
+    let mut b = sites::standing();
+    desk::reports(b);
+    b = desk::post(b, 5, 0, 0, 0, 1_000_000, 161);
+    b = desk::post(b, 6, 0, 0, 0, 160_001, 1_000);
+    b = desk::post(b, 7, 0, 0, 0, 1, 160_000_001);
+    b = desk::post(b, 8, 0, 1, 0, 1, 1);
+    b = desk::post(b, 9, 0, 1, 1, 1_000_000, 2_000_000_000);
+    b = desk::post(b, 10, 0, 0, 0, 1_000_000, 161);
+    b = desk::post(b, 11, 0, 0, 1, 1_000_000, 500_241);
+    // 0.5 kg.
+    b = desk::vapour(b, 3, 0, 0, ONE, 0x3fe0000000000000, 0, 0);
+    desk::reports(b);
+    b = desk::post(b, 5, 0, 0, 0, 160_000, 1_000);
+    b = desk::post(b, 5, 0, 0, 0, 1, 1);
     desk::reports(b);
 }
 
@@ -99,13 +103,4 @@ pub(crate) fn unknown() {
     desk::report(b, 8);
     desk::report(b, 256);
     desk::report(b, 18_446_744_073_709_551_615);
-}
-
-pub(crate) fn rows() {
-    line::text(b"no coefficient row\n");
-    let b = script::run(sites::standing(), &LOSSES);
-    line::text(b"losses over 2,000,000 kg\n");
-    script::run(b, &EXCESS);
-    script::tried(b"a store holds less\n", &STORES);
-    script::tried(b"a holding is less\n", &HOLDINGS);
 }

@@ -32,6 +32,24 @@ pub(crate) fn post(b: Book, k: u8, m: u8, t: u8, s: u8, content: u32, quantity: 
     give(b, posts::of(k, m, t, s, content, quantity))
 }
 
+// Form, stage, substance and floats.
+pub(crate) fn vapour(b: Book, form: u8, t: u8, s: u8, w: u64, u: u64, p: u64, q: u64) -> Book
+    requires { ⌜ Sound b ⌝ }
+    ensures { λ r. ⌜ Sound r ⌝ }
+{
+    give(
+        b,
+        posts::with_floats(posts::of(12, form, t, s, 0, 0), w, u, p, q),
+    )
+}
+
+pub(crate) fn close(b: Book) -> Book
+    requires { ⌜ Sound b ⌝ }
+    ensures { λ r. ⌜ Sound r ⌝ }
+{
+    post(b, 13, 0, 0, 0, 0, 0)
+}
+
 // A post of any bytes, named by how many they are.
 pub(crate) fn bytes(b: Book, s: &[u8]) -> Book
     requires { ⌜ Sound b ⌝ }
@@ -45,22 +63,12 @@ pub(crate) fn bytes(b: Book, s: &[u8]) -> Book
     answered.book
 }
 
-// A set-up, which is of kind 1, or a stage.
-fn named(kind: u8, count: u8) {
-    if kind == 1 {
-        line::text(b"set-up");
-    } else {
-        line::text(b"stage");
-    }
-    line::number(count as u64);
-}
-
 // A block of a kind with its number and check sums, on the book.
-pub(crate) fn framed(b: Book, kind: u8, count: u8, body: &[u8; 500]) -> Book
+fn framed(b: Book, kind: u8, count: u8, body: &[u8; 500]) -> Book
     requires { ⌜ Sound b ⌝ }
     ensures { λ r. ⌜ Sound r ⌝ }
 {
-    named(kind, count);
+    line::number(count as u64);
     let block = bodies::framed(kind, count, site::block_number(b), body);
     let answered = block::take_block(b, &block);
     let verdict = answered.verdict;
@@ -68,15 +76,35 @@ pub(crate) fn framed(b: Book, kind: u8, count: u8, body: &[u8; 500]) -> Book
     answered.book
 }
 
+pub(crate) fn set_up(b: Book, count: u8, body: &[u8; 500]) -> Book
+    requires { ⌜ Sound b ⌝ }
+    ensures { λ r. ⌜ Sound r ⌝ }
+{
+    line::text(b"set-up");
+    framed(b, 1, count, body)
+}
+
+pub(crate) fn describe(b: Book, place: u8, body: &[u8; 500]) -> Book
+    requires { ⌜ Sound b ⌝ }
+    ensures { λ r. ⌜ Sound r ⌝ }
+{
+    line::text(b"stage");
+    framed(b, 2, place, body)
+}
+
 // A body that is no block's, by its layout alone.
-pub(crate) fn unframed(b: Book, kind: u8, count: u8, body: &[u8]) {
-    named(kind, count);
+pub(crate) fn set_up_of(b: Book, count: u8, body: &[u8]) {
+    line::text(b"set-up");
+    line::number(count as u64);
     let setup = site::setup_of(b);
-    if kind == 1 {
-        line::verdict(check_setup(setup.outline, count, body));
-    } else {
-        line::verdict(check_stage(setup.outline, count, body));
-    }
+    line::verdict(check_setup(setup.outline, count, body));
+}
+
+pub(crate) fn describe_of(b: Book, place: u8, body: &[u8]) {
+    line::text(b"stage");
+    line::number(place as u64);
+    let setup = site::setup_of(b);
+    line::verdict(check_stage(setup.outline, place, body));
 }
 
 pub(crate) fn report(b: Book, place: usize)

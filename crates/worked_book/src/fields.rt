@@ -2,62 +2,10 @@
 ghost use Rattle.book.specs.Site.{Sound};
 use crate::desk;
 use crate::line;
-use crate::script;
+use crate::posts::Field;
 use crate::sites;
+use crate::trials;
 use book::site::Book;
-
-const KINDS: [u64; 6] = [
-    45_21_000_001,
-    45_00_014_015,
-    45_21_255_256,
-    0,
-    40_00_001_014,
-    0,
-];
-
-const UNUSED: [u64; 12] = [
-    41_21_004_012,
-    41_21_013_014,
-    42_21_001_003,
-    42_21_013_014,
-    43_21_001_004,
-    43_21_013_014,
-    44_21_001_005,
-    44_21_012_013,
-    44_22_013_014,
-    45_21_012_013,
-    45_23_013_014,
-    0,
-];
-
-// Two materials, stages and substances: 2 is none of them. Forms are 1 to 3.
-const INDICES: [u64; 7] = [
-    41_24_001_004,
-    41_25_001_002,
-    41_00_012_013,
-    41_26_012_013,
-    42_24_003_013,
-    43_24_004_013,
-    0,
-];
-
-// Contents of 1 to 1,000,000, grams of 1 to 2,000,000,000 and micrograms of 1 to 2 × 10^15.
-const LIMITS: [u64; 14] = [
-    44_00_005_012,
-    44_27_005_012,
-    44_28_011_012,
-    45_00_001_012,
-    45_29_001_004,
-    45_29_005_012,
-    45_30_002_003,
-    45_31_004_005,
-    45_32_004_005,
-    0,
-    44_33_005_006,
-    45_20_001_002,
-    45_15_004_005,
-    0,
-];
 
 // The first bytes of a good post with zeros behind it.
 fn of_length(b: Book, n: usize) -> Book
@@ -86,9 +34,63 @@ pub(crate) fn lengths() {
     desk::reports(b);
 }
 
-pub(crate) fn rows() {
-    script::tried(b"kinds\n", &KINDS);
-    script::tried(b"unused fields\n", &UNUSED);
-    script::tried(b"indices at their count, and forms\n", &INDICES);
-    script::tried(b"contents and quantities\n", &LIMITS);
+pub(crate) fn kinds() {
+    line::text(b"kinds\n");
+    let mut b = sites::standing();
+    b = desk::post(b, 0, 0, 0, 0, 0, 1);
+    b = desk::post(b, 14, 0, 0, 0, 0, 0);
+    b = desk::post(b, 255, 0, 0, 0, 0, 1);
+    desk::reports(b);
+    b = trials::kinds(b, 1, 14, Field::None, 0);
+    desk::reports(b);
+}
+
+pub(crate) fn unused() {
+    line::text(b"unused fields\n");
+    let mut b = sites::standing();
+    b = trials::kinds(b, 4, 12, Field::Material, 1);
+    b = trials::one(b, 13, Field::Material, 1);
+    b = trials::kinds(b, 1, 3, Field::Stage, 1);
+    b = trials::one(b, 13, Field::Stage, 1);
+    b = trials::kinds(b, 1, 4, Field::Substance, 1);
+    b = trials::one(b, 13, Field::Substance, 1);
+    b = trials::kinds(b, 1, 5, Field::Content, 1);
+    b = trials::one(b, 12, Field::Content, 1);
+    b = trials::one(b, 13, Field::Content, 16_777_216);
+    b = trials::one(b, 12, Field::Quantity, 1);
+    b = trials::one(b, 13, Field::Quantity, 72_057_594_037_927_936);
+    desk::reports(b);
+}
+
+// Two materials, stages and substances: 2 is none of them. Forms are 1 to 3.
+pub(crate) fn indices() {
+    line::text(b"indices at their count, and forms\n");
+    let mut b = sites::standing();
+    b = trials::kinds(b, 1, 4, Field::Material, 2);
+    b = trials::one(b, 1, Field::Material, 255);
+    b = trials::one(b, 12, Field::Material, 0);
+    b = trials::one(b, 12, Field::Material, 4);
+    b = trials::kinds(b, 3, 13, Field::Stage, 2);
+    b = trials::kinds(b, 4, 13, Field::Substance, 2);
+    desk::reports(b);
+}
+
+// Contents of 1 to 1,000,000, grams of 1 to 2,000,000,000 and micrograms of 1 to 2 × 10^15.
+pub(crate) fn limits() {
+    line::text(b"contents and quantities\n");
+    let mut b = sites::standing();
+    b = trials::kinds(b, 5, 12, Field::Content, 0);
+    b = trials::kinds(b, 5, 12, Field::Content, 1_000_001);
+    b = trials::one(b, 11, Field::Content, 4_294_967_295);
+    b = trials::kinds(b, 1, 12, Field::Quantity, 0);
+    b = trials::kinds(b, 1, 4, Field::Quantity, 2_000_000_001);
+    b = trials::kinds(b, 5, 12, Field::Quantity, 2_000_000_001);
+    b = trials::one(b, 2, Field::Quantity, 4_294_967_297);
+    b = trials::one(b, 4, Field::Quantity, 2_000_000_000_000_001);
+    b = trials::one(b, 4, Field::Quantity, 18_446_744_073_709_551_615);
+    desk::reports(b);
+    b = trials::one(b, 5, Field::Content, 1_000_000);
+    b = trials::one(b, 1, Field::Quantity, 2_000_000_000);
+    b = trials::one(b, 4, Field::Quantity, 2_000_000_000_000_000);
+    desk::reports(b);
 }

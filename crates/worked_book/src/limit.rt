@@ -1,31 +1,17 @@
 // The 4,000th post, the one after it, and the close past the limit.
 ghost use Rattle.book.specs.Site.{Sound};
+use crate::desk;
 use crate::line;
 use crate::posts;
-use crate::script;
+use crate::posts::Field;
 use crate::sites;
+use crate::trials;
 use book::site::Book;
 use post::fields::Post;
 
-// 6, 7, 8 and 9 come before 10, and 10 before 11. A loss of nothing is a post too. A close with a wrong field or float is none.
-const ROWS: [u64; 16] = [
-    0,
-    1_100_00002000000000,
-    0,
-    2_100_00000000000001,
-    2_200_00000000000001,
-    47_05_002_003,
-    12_101_05_00_00_00_000000,
-    12_300_17_17_00_00_000000,
-    5_001_0000001_0000001,
-    12_300_00_00_00_00_000000,
-    0,
-    13_010_00000000000000,
-    49_05_013_014,
-    13_000_00000000000000,
-    13_000_00000000000000,
-    0,
-];
+const ONE: u64 = 0x3ff0000000000000;
+
+const BILLION: u64 = 0x41cdcd6500000000;
 
 fn repeated(b: Book, p: Post, times: u32) -> Book
     requires { ⌜ Sound b ⌝ }
@@ -51,7 +37,24 @@ fn filled() -> Book
     repeated(b, posts::of(2, 0, 0, 0, 0, 2_000_000_000), 1)
 }
 
+// 6, 7, 8 and 9 come before 10, and 10 before 11. A loss of nothing is a post too. A close with a wrong field or float is none.
 pub(crate) fn reached() {
     line::text(b"the limit of posts\n");
-    script::run(filled(), &ROWS);
+    let mut b = filled();
+    desk::reports(b);
+    b = desk::post(b, 1, 1, 0, 0, 0, 2_000_000_000);
+    desk::reports(b);
+    b = desk::post(b, 2, 1, 0, 0, 0, 1);
+    b = desk::post(b, 2, 2, 0, 0, 0, 1);
+    b = trials::one(b, 2, Field::U, ONE);
+    b = desk::vapour(b, 1, 0, 1, ONE, 0, 0, 0);
+    b = desk::vapour(b, 3, 0, 0, BILLION, BILLION, 0, 0);
+    b = desk::post(b, 5, 0, 0, 1, 1, 1);
+    b = desk::vapour(b, 3, 0, 0, 0, 0, 0, 0);
+    desk::reports(b);
+    b = desk::post(b, 13, 0, 1, 0, 0, 0);
+    b = trials::one(b, 13, Field::Q, ONE);
+    b = desk::close(b);
+    b = desk::close(b);
+    desk::reports(b);
 }

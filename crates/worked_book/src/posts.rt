@@ -56,6 +56,15 @@ pub(crate) fn of(
     }
 }
 
+pub(crate) fn with_floats(given: Post, w: u64, u: u64, p: u64, q: u64) -> Post {
+    let mut out = given;
+    out.w = w;
+    out.u = u;
+    out.p = p;
+    out.q = q;
+    out
+}
+
 // A post of each kind that the book of `sites` takes.
 pub(crate) fn good(kind: u8) -> Post {
     if kind <= 4 {
@@ -70,20 +79,34 @@ pub(crate) fn good(kind: u8) -> Post {
     of(kind, 0, 0, 0, 0, 0)
 }
 
-// A post with another number in a field: none, material, stage, substance, content, quantity, w, u, p or q.
-pub(crate) fn changed(given: Post, field: u64, x: u64) -> Post {
+// A field, or none.
+pub(crate) enum Field {
+    None,
+    Material,
+    Stage,
+    Substance,
+    Content,
+    Quantity,
+    W,
+    U,
+    P,
+    Q,
+}
+
+// A post with another number in a field.
+pub(crate) fn changed(given: Post, field: Field, x: u64) -> Post {
     let mut p = given;
     match field {
-        1 => p.material = (x % 256) as u8,
-        2 => p.stage = (x % 256) as u8,
-        3 => p.substance = (x % 256) as u8,
-        4 => p.content = (x % 4294967296) as u32,
-        5 => p.quantity = x,
-        6 => p.w = x,
-        7 => p.u = x,
-        8 => p.p = x,
-        9 => p.q = x,
-        _ => {}
+        Field::None => {}
+        Field::Material => p.material = (x % 256) as u8,
+        Field::Stage => p.stage = (x % 256) as u8,
+        Field::Substance => p.substance = (x % 256) as u8,
+        Field::Content => p.content = (x % 4294967296) as u32,
+        Field::Quantity => p.quantity = x,
+        Field::W => p.w = x,
+        Field::U => p.u = x,
+        Field::P => p.p = x,
+        Field::Q => p.q = x,
     }
     p
 }

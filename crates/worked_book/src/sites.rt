@@ -9,35 +9,19 @@ use book::site::Book;
 use post::fields::Post;
 
 // The first material is full, the second holds 81 only.
-const MATERIALS: [u64; 9] = [
-    0_0000000002,
-    1_0000000002,
-    2_0000000080,
-    4_0000000081,
-    18_0000000001,
-    19_0000000002,
-    26_0000400000,
-    30_0000600000,
-    62_0000001000,
-];
-
-const STAGE: [u64; 8] = [
-    0_0000000001,
-    1_0000000002,
-    2_0000000001,
-    3_0000500000,
-    7_0000250000,
-    19_0000000002,
-    28_0000125000,
-    32_0001000000,
-];
-
 pub(crate) fn materials() -> [u8; 500] {
-    bodies::of(&MATERIALS)
+    let body = bodies::begun(2, 2);
+    let body = bodies::substance(body, 0, 80, 1);
+    let body = bodies::substance(body, 1, 81, 2);
+    let body = bodies::content(body, 0, 0, 400_000);
+    let body = bodies::content(body, 0, 1, 600_000);
+    bodies::content(body, 1, 1, 1_000)
 }
 
 pub(crate) fn stage() -> [u8; 500] {
-    bodies::of(&STAGE)
+    let body = bodies::begun(1, 2);
+    let body = bodies::treated(body, 0, 1, 500_000, 250_000, 0, 0);
+    bodies::treated(body, 1, 2, 0, 0, 125_000, 1_000_000)
 }
 
 pub(crate) fn set_up() -> Book

@@ -2,72 +2,54 @@
 use crate::bodies;
 use crate::desk;
 use crate::line;
-use crate::script;
 use crate::sites;
 use book::site;
 
-const PURE: [u64; 5] = [
-    0_0000000001,
-    1_0000000002,
-    2_0000000080,
-    18_0000000001,
-    26_0001000000,
-];
-
-const UNTREATED: [u64; 3] = [0_0000000001, 1_0000000001, 2_0000000001];
-
 // 14.4 and 14.4 kg from two stages are filed as 29 kg and not as 28. One substance in class 1, pure, and no treatment.
-const TWO_STAGES: [u64; 9] = [
-    2_000_00000002000000,
-    3_000_00000000800000,
-    3_010_00000000800000,
-    5_000_1000000_0785600,
-    9_010_1000000_0785600,
-    10_000_1000000_0014400,
-    1,
-    13_000_00000000000000,
-    1,
-];
-
-// The split is made on the year's totals: two posts of 1 microgram at half removed are one removed.
-const SPLIT_ONCE: [u64; 7] = [
-    4_000_00000000000007,
-    10_000_0000001_0000001,
-    1,
-    10_000_0000001_0000001,
-    1,
-    13_000_00000000000000,
-    1,
-];
-
-// A loss of 0 leaves a holding of 0 and counts as a post. A microgram below the threshold of each class, and at it.
-const LOSSES_OF_0: [u64; 3] = [12_110_05_00_00_00_000000, 12_301_00_00_00_00_000000, 0];
-
-const THRESHOLDS: [u64; 8] = [
-    4_000_00999999999999,
-    4_011_00499999999999,
-    0,
-    4_010_00000000000001,
-    4_001_00000000000001,
-    0,
-    13_000_00000000000000,
-    0,
-];
-
 pub(crate) fn two_stages() {
     line::text(b"14.4 and 14.4 kg\n");
-    let b = desk::framed(site::fresh(), 1, 1, &bodies::of(&PURE));
-    let stage = bodies::of(&UNTREATED);
-    let b = desk::framed(b, 2, 0, &stage);
-    let b = desk::framed(b, 2, 1, &stage);
-    script::run(b, &TWO_STAGES);
+    let body = bodies::substance(bodies::begun(1, 2), 0, 80, 1);
+    let body = bodies::content(body, 0, 0, 1_000_000);
+    let mut b = desk::set_up(site::fresh(), 1, &body);
+    let stage = bodies::treated(bodies::begun(1, 1), 0, 1, 0, 0, 0, 0);
+    b = desk::describe(b, 0, &stage);
+    b = desk::describe(b, 1, &stage);
+    b = desk::post(b, 2, 0, 0, 0, 0, 2_000_000);
+    b = desk::post(b, 3, 0, 0, 0, 0, 800_000);
+    b = desk::post(b, 3, 0, 1, 0, 0, 800_000);
+    b = desk::post(b, 5, 0, 0, 0, 1_000_000, 785_600);
+    b = desk::post(b, 9, 0, 1, 0, 1_000_000, 785_600);
+    b = desk::post(b, 10, 0, 0, 0, 1_000_000, 14_400);
+    desk::report(b, 0);
+    b = desk::close(b);
+    desk::report(b, 0);
 }
 
-pub(crate) fn others() {
+// The split is made on the year's totals: two posts of 1 microgram at half removed are one removed.
+pub(crate) fn split_once() {
     line::text(b"2 micrograms in two posts\n");
-    script::run(sites::described(), &SPLIT_ONCE);
+    let mut b = desk::post(sites::described(), 4, 0, 0, 0, 0, 7);
+    b = desk::post(b, 10, 0, 0, 0, 1, 1);
+    desk::report(b, 0);
+    b = desk::post(b, 10, 0, 0, 0, 1, 1);
+    desk::report(b, 0);
+    b = desk::close(b);
+    desk::report(b, 0);
+}
+
+// A loss of 0 leaves a holding of 0 and counts as a post. A microgram below the threshold of each class, and at it.
+pub(crate) fn thresholds() {
     line::text(b"losses of 0\n");
-    let b = script::run(sites::described(), &LOSSES_OF_0);
+    let mut b = desk::vapour(sites::described(), 1, 1, 0, 0x3ff0000000000000, 0, 0, 0);
+    b = desk::vapour(b, 3, 0, 1, 0, 0, 0, 0);
+    desk::reports(b);
     line::text(b"thresholds\n");
-    script::run(b, &THRESHOLDS);
+    b = desk::post(b, 4, 0, 0, 0, 0, 999_999_999_999);
+    b = desk::post(b, 4, 0, 1, 1, 0, 499_999_999_999);
+    desk::reports(b);
+    b = desk::post(b, 4, 0, 1, 0, 0, 1);
+    b = desk::post(b, 4, 0, 0, 1, 0, 1);
+    desk::reports(b);
+    b = desk::close(b);
+    desk::reports(b);
 }

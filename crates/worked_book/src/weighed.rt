@@ -12,83 +12,83 @@
 //     Second stage: came 750; left 150 to gas, 400 shipped; 200 remain, and close to gas.
 //       Gas 150 + 200 = 350: removed nine tenths, 315, none destroyed; released 35, to air; residue 315, to landfill.
 //     They add up to 750 with the 400 shipped; filed 35 and 320.
+ghost use Rattle.book.specs.Site.{Sound};
 use crate::bodies;
 use crate::desk;
 use crate::line;
-use crate::script;
 use book::site;
+use book::site::Book;
 
-const MATERIALS: [u64; 10] = [
-    0_0000000002,
-    1_0000000002,
-    2_0000000300,
-    4_0000000400,
-    18_0000000001,
-    19_0000000002,
-    26_0000200000,
-    30_0000000999,
-    58_0000009999,
-    62_0000500000,
-];
+const A_HUNDRED: u64 = 0x4059000000000000;
 
-const FIRST_STAGE: [u64; 9] = [
-    0_0000000001,
-    1_0000000001,
-    2_0000000001,
-    3_0000500000,
-    7_0000250000,
-    11_0000200000,
-    19_0000000002,
-    28_0000750000,
-    32_0000500000,
-];
+const A_HALF: u64 = 0x3fe0000000000000;
 
-const SECOND_STAGE: [u64; 9] = [
-    0_0000000002,
-    1_0000000002,
-    2_0000000002,
-    3_0000100000,
-    7_0001000000,
-    11_0000400000,
-    15_0000500000,
-    19_0000000001,
-    20_0000900000,
-];
+fn opened() -> Book
+    ensures { λ r. ⌜ Sound r ⌝ }
+{
+    let body = bodies::substance(bodies::begun(2, 2), 0, 300, 1);
+    let body = bodies::substance(body, 1, 400, 2);
+    let body = bodies::content(body, 0, 0, 200_000);
+    let body = bodies::content(body, 0, 1, 999);
+    let body = bodies::content(body, 1, 0, 9_999);
+    let body = bodies::content(body, 1, 1, 500_000);
+    let b = desk::set_up(site::fresh(), 2, &body);
+    let body = bodies::treated(bodies::begun(1, 1), 0, 1, 500_000, 250_000, 200_000, 0);
+    let body = bodies::treated(body, 1, 2, 0, 0, 750_000, 500_000);
+    let b = desk::describe(b, 0, &body);
+    let body = bodies::treated(
+        bodies::begun(2, 2),
+        0,
+        2,
+        100_000,
+        1_000_000,
+        400_000,
+        500_000,
+    );
+    let body = bodies::treated(body, 1, 1, 900_000, 0, 0, 0);
+    desk::describe(b, 1, &body)
+}
 
-const ROWS: [u64; 24] = [
-    // The second issue of the first material to the first stage is more than is there.
-    1_000_00000001000000,
-    2_000_00000004000000,
-    2_100_00000002000000,
-    3_000_00000003000000,
-    3_010_00000001000000,
-    3_000_00000002000000,
-    3_110_00000001500000,
-    4_000_00300000000000,
-    // The second post to gas states no content.
-    5_000_0200000_1000000,
-    6_000_0050000_0100000,
-    7_010_0100000_0050000,
-    8_010_0010000_0001000,
-    9_000_0095000_1000000,
-    10_000_0100000_0500000,
-    10_000_0000000_0500000,
-    11_010_0050000_0200000,
-    12_300_13_14_00_00_000000,
-    10_011_0500000_0300000,
-    5_011_0400000_1000000,
-    // What is bought after the close is refused.
-    0,
-    13_000_00000000000000,
-    0,
-    2_000_00000000000001,
-    0,
-];
+// The second issue of the first material to the first stage is more than is there.
+fn received(mut b: Book) -> Book
+    requires { ⌜ Sound b ⌝ }
+    ensures { λ r. ⌜ Sound r ⌝ }
+{
+    b = desk::post(b, 1, 0, 0, 0, 0, 1_000_000);
+    b = desk::post(b, 2, 0, 0, 0, 0, 4_000_000);
+    b = desk::post(b, 2, 1, 0, 0, 0, 2_000_000);
+    b = desk::post(b, 3, 0, 0, 0, 0, 3_000_000);
+    b = desk::post(b, 3, 0, 1, 0, 0, 1_000_000);
+    b = desk::post(b, 3, 0, 0, 0, 0, 2_000_000);
+    b = desk::post(b, 3, 1, 1, 0, 0, 1_500_000);
+    desk::post(b, 4, 0, 0, 0, 0, 300_000_000_000)
+}
 
+// The second post to gas states no content.
+fn moved(mut b: Book) -> Book
+    requires { ⌜ Sound b ⌝ }
+    ensures { λ r. ⌜ Sound r ⌝ }
+{
+    b = desk::post(b, 5, 0, 0, 0, 200_000, 1_000_000);
+    b = desk::post(b, 6, 0, 0, 0, 50_000, 100_000);
+    b = desk::post(b, 7, 0, 1, 0, 100_000, 50_000);
+    b = desk::post(b, 8, 0, 1, 0, 10_000, 1_000);
+    b = desk::post(b, 9, 0, 0, 0, 95_000, 1_000_000);
+    b = desk::post(b, 10, 0, 0, 0, 100_000, 500_000);
+    b = desk::post(b, 10, 0, 0, 0, 0, 500_000);
+    b = desk::post(b, 11, 0, 1, 0, 50_000, 200_000);
+    b = desk::vapour(b, 3, 0, 0, A_HUNDRED, A_HALF, 0, 0);
+    b = desk::post(b, 10, 0, 1, 1, 500_000, 300_000);
+    desk::post(b, 5, 0, 1, 1, 400_000, 1_000_000)
+}
+
+// What is bought after the close is refused.
 pub(crate) fn list() {
     line::text(b"a list worked from its posts\n");
-    let b = desk::framed(site::fresh(), 1, 2, &bodies::of(&MATERIALS));
-    let b = desk::framed(b, 2, 0, &bodies::of(&FIRST_STAGE));
-    let b = desk::framed(b, 2, 1, &bodies::of(&SECOND_STAGE));
-    script::run(b, &ROWS);
+    let mut b = moved(received(opened()));
+    desk::reports(b);
+    b = desk::close(b);
+    desk::reports(b);
+    b = desk::post(b, 2, 0, 0, 0, 0, 1);
+    desk::reports(b);
 }

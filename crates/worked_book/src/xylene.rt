@@ -6,33 +6,21 @@
 use crate::bodies;
 use crate::desk;
 use crate::line;
-use crate::script;
 use book::site;
-
-const MATERIALS: [u64; 5] = [
-    0_0000000001,
-    1_0000000001,
-    2_0000000080,
-    18_0000000001,
-    26_0000450000,
-];
-
-const STAGE: [u64; 3] = [0_0000000001, 1_0000000001, 2_0000000001];
-
-const ROWS: [u64; 8] = [
-    1,
-    1_000_00000000500000,
-    2_000_00000002500000,
-    3_000_00000002700000,
-    5_000_0450000_2200000,
-    1,
-    13_000_00000000000000,
-    1,
-];
 
 pub(crate) fn year() {
     line::text(b"xylene\n");
-    let b = desk::framed(site::fresh(), 1, 1, &bodies::of(&MATERIALS));
-    let b = desk::framed(b, 2, 0, &bodies::of(&STAGE));
-    script::run(b, &ROWS);
+    let body = bodies::substance(bodies::begun(1, 1), 0, 80, 1);
+    let body = bodies::content(body, 0, 0, 450_000);
+    let mut b = desk::set_up(site::fresh(), 1, &body);
+    let body = bodies::treated(bodies::begun(1, 1), 0, 1, 0, 0, 0, 0);
+    b = desk::describe(b, 0, &body);
+    desk::report(b, 0);
+    b = desk::post(b, 1, 0, 0, 0, 0, 500_000);
+    b = desk::post(b, 2, 0, 0, 0, 0, 2_500_000);
+    b = desk::post(b, 3, 0, 0, 0, 0, 2_700_000);
+    b = desk::post(b, 5, 0, 0, 0, 450_000, 2_200_000);
+    desk::report(b, 0);
+    b = desk::close(b);
+    desk::report(b, 0);
 }

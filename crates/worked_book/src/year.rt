@@ -1,124 +1,138 @@
 // A year of three substances (80 and 300 in class 1, 400 in class 2), three materials and two stages.
+ghost use Rattle.book.specs.Site.{Sound};
 use crate::bodies;
 use crate::desk;
 use crate::line;
-use crate::script;
 use book::site;
+use book::site::Book;
+
+const ONE: u64 = 0x3ff0000000000000;
+
+const VOLUME: u64 = 0x409f400000000000;
+
+const PARTIAL: u64 = 0x4094c80000000000;
+
+const TANK: u64 = 0x40f7f34000000000;
+
+const DIAMETER: u64 = 0x402c000000000000;
+
+const SHARE: u64 = 0x4023cccccccccccd;
+
+const DRAWN: u64 = 0x4097700000000000;
+
+const RECEIVED: u64 = 0x4062c00000000000;
+
+const FILLING: u64 = 0x3f6606317268d328;
+
+const DISPENSED: u64 = 0x4061c00000000000;
+
+const FUELING: u64 = 0x3f6bbc1e28dff31a;
 
 // The first material's 9,999 ppm of 300 and 999 ppm of 400 do not count; the third holds nothing.
-const MATERIALS: [u64; 14] = [
-    0_0000000003,
-    1_0000000002,
-    2_0000000080,
-    4_0000000300,
-    6_0000000400,
-    18_0000000001,
-    19_0000000001,
-    20_0000000002,
-    26_0000450000,
-    30_0000009999,
-    34_0000000999,
-    58_0000010000,
-    62_0000500000,
-    66_0000001000,
-];
+fn materials() -> [u8; 500] {
+    let body = bodies::begun(3, 2);
+    let body = bodies::substance(body, 0, 80, 1);
+    let body = bodies::substance(body, 1, 300, 1);
+    let body = bodies::substance(body, 2, 400, 2);
+    let body = bodies::content(body, 0, 0, 450_000);
+    let body = bodies::content(body, 0, 1, 9_999);
+    let body = bodies::content(body, 0, 2, 999);
+    let body = bodies::content(body, 1, 0, 10_000);
+    let body = bodies::content(body, 1, 1, 500_000);
+    bodies::content(body, 1, 2, 1_000)
+}
 
-// Water to public water, residues off site; 80 and 400 close to gas, 300 to waste water.
-const FIRST_STAGE: [u64; 16] = [
-    0_0000000001,
-    1_0000000001,
-    2_0000000001,
-    3_0000900000,
-    7_0000400000,
-    11_0000500000,
-    15_0000250000,
-    19_0000000002,
-    20_0000333333,
-    24_0000666667,
-    28_0000800000,
-    36_0000000001,
-    37_0000999999,
-    41_0000999999,
-    45_0001000000,
-    49_0000500000,
-];
+// First stage: water to public water, residues off site; 80 and 400 close to gas, 300 to waste water. Second: water to the sewer,
+// residues to landfill; 80 and 400 close to waste water, 300 to gas.
+fn opened() -> Book
+    ensures { λ r. ⌜ Sound r ⌝ }
+{
+    let mut b = desk::set_up(site::fresh(), 3, &materials());
+    let body = bodies::begun(1, 1);
+    let body = bodies::treated(body, 0, 1, 900_000, 400_000, 500_000, 250_000);
+    let body = bodies::treated(body, 1, 2, 333_333, 666_667, 800_000, 0);
+    let body = bodies::treated(body, 2, 1, 999_999, 999_999, 1_000_000, 500_000);
+    b = desk::describe(b, 0, &body);
+    let body = bodies::begun(2, 2);
+    let body = bodies::treated(body, 0, 2, 123_456, 654_321, 700_000, 300_000);
+    let body = bodies::treated(body, 1, 1, 1_000_000, 1_000_000, 1, 1);
+    let body = bodies::treated(body, 2, 2, 0, 1_000_000, 500_000, 500_000);
+    desk::describe(b, 1, &body)
+}
 
-// Water to the sewer, residues to landfill; 80 and 400 close to waste water, 300 to gas.
-const SECOND_STAGE: [u64; 16] = [
-    0_0000000002,
-    1_0000000002,
-    2_0000000002,
-    3_0000123456,
-    7_0000654321,
-    11_0000700000,
-    15_0000300000,
-    19_0000000001,
-    20_0001000000,
-    24_0001000000,
-    28_0000000001,
-    32_0000000001,
-    36_0000000002,
-    41_0001000000,
-    45_0000500000,
-    49_0000500000,
-];
+fn reports(b: Book)
+    requires { ⌜ Sound b ⌝ }
+{
+    desk::reports(b);
+    desk::report(b, 2);
+}
 
-const ROWS: [u64; 44] = [
-    0,
-    3,
-    // Kinds 1 to 4: into the stores, from them to the stages, and what is formed there.
-    1_000_00000003000000,
-    2_000_00000002000000,
-    2_100_00000004000001,
-    2_200_00000000000500,
-    3_000_00000002500000,
-    3_010_00000001200003,
-    3_100_00000001500007,
-    3_110_00000002000000,
-    3_200_00000000000100,
+// Kinds 1 to 4: into the stores, from them to the stages, and what is formed there.
+fn received(mut b: Book) -> Book
+    requires { ⌜ Sound b ⌝ }
+    ensures { λ r. ⌜ Sound r ⌝ }
+{
+    b = desk::post(b, 1, 0, 0, 0, 0, 3_000_000);
+    b = desk::post(b, 2, 0, 0, 0, 0, 2_000_000);
+    b = desk::post(b, 2, 1, 0, 0, 0, 4_000_001);
+    b = desk::post(b, 2, 2, 0, 0, 0, 500);
+    b = desk::post(b, 3, 0, 0, 0, 0, 2_500_000);
+    b = desk::post(b, 3, 0, 1, 0, 0, 1_200_003);
+    b = desk::post(b, 3, 1, 0, 0, 0, 1_500_007);
+    b = desk::post(b, 3, 1, 1, 0, 0, 2_000_000);
+    b = desk::post(b, 3, 2, 0, 0, 0, 100);
     // An opening may come at any time.
-    1_100_00000001000000,
-    0,
-    3,
-    4_002_00700000000000,
-    4_012_00000000000001,
-    4_010_00123456789012,
-    // Kinds 5 to 9. The 5 ppm of 300 and the 999 ppm of 400 are taken as stated.
-    5_000_0450000_1000000,
-    6_001_0000005_0100003,
-    6_010_0123457_0010001,
-    7_010_1000000_0033333,
-    7_001_0020000_0077777,
-    8_011_0009999_0054321,
-    8_000_0000001_0000001,
-    29_002_0000999_0000001,
-    0,
-    3,
-    // Kinds 10 to 12. 80 leaves the first stage by vapour beside its gas: 2,000 m³ at 1,330 of 98,100 Pa. 300 goes through a floating
-    // roof of 14 m, 9.9 % of 1,500 kL. 400 leaves a station that received 150 kL and dispensed 142.
-    10_000_0450001_0200003,
-    10_010_0333333_0099999,
-    10_001_0000071_1000003,
-    10_012_0000007_0000142,
-    11_000_0012345_0067891,
-    11_010_0098765_0432101,
-    11_011_0250000_2000001,
-    11_002_0000030_0070001,
-    12_200_02_03_04_05_000000,
-    12_101_06_07_08_00_000000,
-    12_312_09_10_11_12_000000,
-    0,
-    3,
-    13_000_00000000000000,
-    0,
-    3,
-    4,
-];
+    b = desk::post(b, 1, 1, 0, 0, 0, 1_000_000);
+    reports(b);
+    b = desk::post(b, 4, 0, 0, 2, 0, 700_000_000_000);
+    b = desk::post(b, 4, 0, 1, 2, 0, 1);
+    desk::post(b, 4, 0, 1, 0, 0, 123_456_789_012)
+}
+
+// Kinds 5 to 9. The 5 ppm of 300 and the 999 ppm of 400 are taken as stated.
+fn moved(mut b: Book) -> Book
+    requires { ⌜ Sound b ⌝ }
+    ensures { λ r. ⌜ Sound r ⌝ }
+{
+    b = desk::post(b, 5, 0, 0, 0, 450_000, 1_000_000);
+    b = desk::post(b, 6, 0, 0, 1, 5, 100_003);
+    b = desk::post(b, 6, 0, 1, 0, 123_457, 10_001);
+    b = desk::post(b, 7, 0, 1, 0, 1_000_000, 33_333);
+    b = desk::post(b, 7, 0, 0, 1, 20_000, 77_777);
+    b = desk::post(b, 8, 0, 1, 1, 9_999, 54_321);
+    b = desk::post(b, 8, 0, 0, 0, 1, 1);
+    desk::post(b, 9, 0, 0, 2, 999, 300_000_001)
+}
+
+// Kinds 10 to 12. 80 leaves the first stage by vapour beside its gas: 2,000 m³ at 1,330 of 98,100 Pa. 300 goes through a floating
+// roof of 14 m, 9.9 % of 1,500 kL. 400 leaves a station that received 150 kL and dispensed 142.
+fn emitted(mut b: Book) -> Book
+    requires { ⌜ Sound b ⌝ }
+    ensures { λ r. ⌜ Sound r ⌝ }
+{
+    b = desk::post(b, 10, 0, 0, 0, 450_001, 200_003);
+    b = desk::post(b, 10, 0, 1, 0, 333_333, 99_999);
+    b = desk::post(b, 10, 0, 0, 1, 71, 1_000_003);
+    b = desk::post(b, 10, 0, 1, 2, 7, 142);
+    b = desk::post(b, 11, 0, 0, 0, 12_345, 67_891);
+    b = desk::post(b, 11, 0, 1, 0, 98_765, 432_101);
+    b = desk::post(b, 11, 0, 1, 1, 250_000, 2_000_001);
+    b = desk::post(b, 11, 0, 0, 2, 30, 70_001);
+    b = desk::vapour(b, 2, 0, 0, VOLUME, PARTIAL, TANK, ONE);
+    b = desk::vapour(b, 1, 0, 1, DIAMETER, SHARE, DRAWN, 0);
+    desk::vapour(b, 3, 1, 2, RECEIVED, FILLING, DISPENSED, FUELING)
+}
 
 pub(crate) fn whole() {
     line::text(b"a year\n");
-    let b = desk::framed(site::fresh(), 1, 3, &bodies::of(&MATERIALS));
-    let b = desk::framed(b, 2, 0, &bodies::of(&FIRST_STAGE));
-    let b = desk::framed(b, 2, 1, &bodies::of(&SECOND_STAGE));
-    script::run(b, &ROWS);
+    let mut b = opened();
+    reports(b);
+    b = received(b);
+    b = moved(b);
+    reports(b);
+    b = emitted(b);
+    reports(b);
+    b = desk::close(b);
+    reports(b);
+    desk::report(b, 3);
 }

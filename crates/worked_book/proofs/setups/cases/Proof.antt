@@ -22,8 +22,8 @@ loop-holds c = omega arith
 mul-try-case : tie.Need-mul-try-case Inv-loop μ-loop
 mul-try-case c = omega arith
 
-array-read-try-case : tie.Need-array-read-try-case Inv-loop μ-loop
-array-read-try-case c = search needs
+array-copy-out-try-case : tie.Need-array-copy-out-try-case Inv-loop μ-loop
+array-copy-out-try-case c = search needs
 
 try-case-requires : tie.Need-try-case-requires Inv-loop μ-loop
 try-case-requires c κs = search needs
@@ -50,7 +50,7 @@ cases-spec =
     text-requires
     loop-holds
     mul-try-case
-    array-read-try-case
+    array-copy-out-try-case
     try-case-requires
     add-i
     loop-less

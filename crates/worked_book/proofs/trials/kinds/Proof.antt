@@ -14,17 +14,8 @@ abbrev μ-loop : tie.MeasureT-loop
 loop-holds : tie.Need-loop-holds Inv-loop μ-loop
 loop-holds c = search needs
 
-cast-good : tie.Need-cast-good Inv-loop μ-loop
-cast-good c = search needs
-
-good-requires : tie.Need-good-requires Inv-loop μ-loop
-good-requires c κs = search needs
-
-changed-requires : tie.Need-changed-requires Inv-loop μ-loop
-changed-requires c κs = search needs
-
-give-requires : tie.Need-give-requires Inv-loop μ-loop
-give-requires c κs = search needs
+one-requires : tie.Need-one-requires Inv-loop μ-loop
+one-requires c κs = search needs
 
 add-kind : tie.Need-add-kind Inv-loop μ-loop
 add-kind c = omega arith
@@ -45,10 +36,7 @@ kinds-spec =
     Inv-loop
     μ-loop
     loop-holds
-    cast-good
-    good-requires
-    changed-requires
-    give-requires
+    one-requires
     add-kind
     loop-less
     loop-again
