@@ -1,4 +1,4 @@
--- Records on a tally alone, and what they make of any buffer of so many bytes.
+-- What only follows the code's steps: records on a tally alone, and where they stop in any buffer of so many bytes. No promise rests on these definitions.
 use Prim.Native.Nat.{ℕ}
 use mathlib.Core.Path.{_≡_}
 use mathlib.Core.List.{List}

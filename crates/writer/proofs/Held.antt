@@ -114,7 +114,8 @@ module _ (κ : Lft) (b o : ℕ) (γ : GName) (ys : List ℕ) where
         qed W (‵ (Row κ .own (writer-at b o γ ys n d) (writer-val s n d ∷ [])) ∷ ‵ (flft κ q) ∷ []) ∵ updating ! $
         use1 W (given (writer-val s n d ∷ [] ≡ writer-val s n d ∷ []) (‵ (all-own (T.the-type (second κ) .parts) (T′.the-laws (second κ)) (slice-at b o γ ys, (n, (d, tt))))))
         (own-open 𝓤 H A W (T.the-type (second κ)) (T′.the-laws (second κ)) (slice-at b o γ ys, (n, (d, tt))) (writer-val s n d)) $ learn ! (λ _. fsplit ! $ move ! (1 ∷ []) $ drop ! $
-        use2 W (later (some (λ (δ : GName). ‵ (Lent ν δ) ⊛ ‵ (Keeps q ν δ)))) (lends-again u8 κ (ν ∷ []) q γ b o 𝓤 H A W (named 1) (named 0) ys) $ await ! tt $ pick ! (λ δ. split ! $
+        use2 W (later (some (λ (δ : GName). ‵ (Lent ν δ) ⊛ ‵ (Keeps q ν δ))))
+        (lends-again u8 κ (ν ∷ []) q γ b o 𝓤 H A W (named 1) (named 0) ys) $ await ! tt $ pick ! (λ δ. split ! $
         at-once ! $ show ! (λ (ε : GName). sep 𝓤 (sem 𝓤 H A (Lent ν ε)) (sem 𝓤 H A (Keeps q ν ε))) δ $ frame ! $ done !))
 
     pub comes-home : (δ : GName) (zs : List ℕ) (m : ℕ) (c : Draft) → Room u8 (length ys) → length zs ≡ length ys → m < 2 ^ 64 → Is D.the-row c (draft-val c ∷ [])

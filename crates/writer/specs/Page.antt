@@ -1,4 +1,5 @@
--- What a writer has, as a page: the lent buffer's bytes, how many are filled, and the block being filled; and what its calls make of it (document 02, (a)).
+-- What a writer has, as a page: the lent buffer's bytes, how many are filled, and the block being filled; and what its calls make of it, one by one (document 02,
+-- (a)). What the bytes of a whole list of calls are is said without a page in the claims.
 use Prim.Native.Nat.{ℕ, _+_, _*_}
 use mathlib.Core.Path.{_≡_}
 use mathlib.Core.Bool.{cond}

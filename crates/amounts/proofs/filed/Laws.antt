@@ -68,7 +68,8 @@ step-cases a f =
       | inr b ↦ inl (b, step-low a b)
     ]
   where
-    high : (a j : ℕ) → 10000000000 ≤ a → 10 ≤ j → j ≤ 19 → Decade j a → ((a < 10000000000) × (stepOf a ≡ 100000000)) ⊎ ((j : ℕ) × (9 ≤ j) × (j ≤ 18) × (stepOf a ≡ 10 ^ j) × Decade (suc j) a)
+    high : (a j : ℕ) → 10000000000 ≤ a → 10 ≤ j → j ≤ 19 → Decade j a
+        → ((a < 10000000000) × (stepOf a ≡ 100000000)) ⊎ ((j : ℕ) × (9 ≤ j) × (j ≤ 18) × (stepOf a ≡ 10 ^ j) × Decade (suc j) a)
     high a zero b l m t = absurd (omega arith)
     high a (suc j) b l m t = inr (j, omega arith, omega arith, step-high j a m b t, t)
 

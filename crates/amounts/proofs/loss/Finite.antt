@@ -54,7 +54,11 @@ ordered : (a b : ℕ) → (ltb a b || (eqb a b && true)) ≡ leb a b
 ordered a b =
     same-test (ltb a b || (eqb a b && true)) (leb a b)
     (there (ltb a b) (eqb a b) (λ t. le-of-lt (ltb→lt a b t)) (λ t. le-of-eq (eqb→eq a b t)))
-    (λ t. elim (eq-or-lt-of-le (leb→le a b t)) [ inl e ↦ back (ltb a b) (eqb a b) (inr (subst (λ (x : ℕ). T (eqb a x)) e (eqb-refl a))) | inr l ↦ back (ltb a b) (eqb a b) (inl (lt→ltb a b l)) ])
+    (λ t.
+    elim (eq-or-lt-of-le (leb→le a b t)) [
+      | inl e ↦ back (ltb a b) (eqb a b) (inr (subst (λ (x : ℕ). T (eqb a x)) e (eqb-refl a)))
+      | inr l ↦ back (ltb a b) (eqb a b) (inl (lt→ltb a b l))
+    ])
   where
     there : (p q : Bool) → (T p → a ≤ b) → (T q → a ≤ b) → T (p || (q && true)) → T (leb a b)
     there true q f g t = le→leb a b (f tt)
@@ -136,7 +140,8 @@ from-one : {lo : Float} (x : Float) → Exactly 1 lo → T (finite x) → T (le 
 unfolding le
 from-one (fin false m e) (exactly l j v) f p = fromOne m e (size-ge (m * up e) (down e) (l * up j) (down j) (down-pos j) (at-most (l * up j * down e) (m * up e * down j) p) v)
 from-one (fin true m e) (exactly l j v) f p =
-    absurd (lt-irrefl 0 (subst (λ (x : ℕ). 0 < x) (sym (one-mul (down j)) ∙ sym v ∙ no-product (l * up j) (down e) (down-pos e) (both-zero (l * up j * down e) (m * up e * down j) p .0)) (down-pos j)))
+    let none = no-product (l * up j) (down e) (down-pos e) (both-zero (l * up j * down e) (m * up e * down j) p .0) in
+    absurd (lt-irrefl 0 (subst (λ (x : ℕ). 0 < x) (sym (one-mul (down j)) ∙ sym v ∙ none) (down-pos j)))
 
 zero-value : {n : ℕ} (s : Bool) (x : Float) (c : ℕ) → 0 < c → HasValue x s 0 c → Within n x
 zero-value s (fin t m e) c C v = zero-size t m e (no-product (m * up e) c C (v .1 ∙ zero-mul (down e)))
@@ -183,7 +188,8 @@ alike : (s t : Bool) → T (Bool·beq s t) → T s → T t
 alike true true p q = tt
 
 -- what `add` does with ±a / c and ±b / c
-sum-within : {i : ℕ} (s t : Bool) (a b c : ℕ) → suc i ≤ 1023 → 0 < c → (T s → a ≡ 0) → (T t → b ≡ 0) → a ≤ 2 ^ i * c → b ≤ 2 ^ i * c → Within (suc i) (sum binary64 s a t b c)
+sum-within : {i : ℕ} (s t : Bool) (a b c : ℕ) → suc i ≤ 1023 → 0 < c → (T s → a ≡ 0) → (T t → b ≡ 0) → a ≤ 2 ^ i * c → b ≤ 2 ^ i * c
+    → Within (suc i) (sum binary64 s a t b c)
 unfolding sum
 sum-within {i} s t a b c r C y z h k =
     let top : 2 ^ suc i * c ≡ 2 * (2 ^ i * c) = ap (λ (x : ℕ). x * c) (pow-succ' 2 i) ∙ mul-assoc 2 (2 ^ i) c in
@@ -345,5 +351,6 @@ kg-finite form found w u p q f x c = go (eqb form 1) (eqb form 2) (eqb form 3)
     go false false false h e = let z : _≡_ {A = ℕ} 0 1 = cc in absurd (omega arith)
 
 -- the same of a substance's number
-pub vapour-kg-finite : (form number : ℕ) (w u p q : Float) (f : LossForm) (x : Float) → formOf form w u p q ≡ taken f → kgOf f (rowOf number) ≡ taken x → (finite x ≡ true) × (le (whole 0) x ≡ true)
+pub vapour-kg-finite : (form number : ℕ) (w u p q : Float) (f : LossForm) (x : Float) → formOf form w u p q ≡ taken f → kgOf f (rowOf number) ≡ taken x
+    → (finite x ≡ true) × (le (whole 0) x ≡ true)
 vapour-kg-finite form number w u p q f x = kg-finite form (rowOf number) w u p q f x (rows-within number)

@@ -34,7 +34,8 @@ same-digit x y k j hk hj e = go (decLt x y) (decLt y x)
     go (no p) (no q) = omega arith
 
 -- a write to a cell changes its substance's total as it does the cell
-pub total-set : (l : List ℕ) (account stage s v : ℕ) → account < 9 → stage < 8 → s < 8 → length l ≡ 576 → total (set l (cellOf account stage s) v) s + cell l account stage s ≡ total l s + v
+pub total-set : (l : List ℕ) (account stage s v : ℕ) → account < 9 → stage < 8 → s < 8 → length l ≡ 576
+    → total (set l (cellOf account stage s) v) s + cell l account stage s ≡ total l s + v
 total-set l account stage s v ha hst hs long =
     let m = set l (cellOf account stage s) v in
     let elsewhere : (x k : ℕ) → (cellOf x k s ≡ cellOf account stage s → ⊥) → cell m x k s ≡ cell l x k s = λ x k ne. getD-set-other l (cellOf account stage s) (cellOf x k s) v 0 ne in
@@ -48,7 +49,8 @@ pub total-other : (l : List ℕ) (account stage s v t : ℕ) → s < 8 → t < 8
 total-other l account stage s v t hs ht ne =
     let m = set l (cellOf account stage s) v in
     total-is m t
-    ∙ sum-same 8 (column m t) (column l t) (λ k hk. sum-same 9 (λ x. cell m x k t) (λ x. cell l x k t) (λ x hx. getD-set-other l (cellOf account stage s) (cellOf x k t) v 0 (λ e. ne (omega arith))))
+    ∙ sum-same 8 (column m t) (column l t)
+    (λ k hk. sum-same 9 (λ x. cell m x k t) (λ x. cell l x k t) (λ x hx. getD-set-other l (cellOf account stage s) (cellOf x k t) v 0 (λ e. ne (omega arith))))
     ∙ sym (total-is l t)
 
 -- a cell is at most its substance's total
@@ -116,7 +118,8 @@ module _ (l sides : List ℕ) where
   settled-again k = rw add-one
 
   -- one pair more
-  pub settled-more : (k : ℕ) (out : List ℕ) (to : ℕ) → out ≡ settled l sides k → to ≡ closesTo (getD sides k 0) → moved out (at held k) (at to k) (getD out (at held k) 0) ≡ settled l sides (k + 1)
+  pub settled-more : (k : ℕ) (out : List ℕ) (to : ℕ) → out ≡ settled l sides k → to ≡ closesTo (getD sides k 0)
+      → moved out (at held k) (at to k) (getD out (at held k) 0) ≡ settled l sides (k + 1)
   settled-more k out to e w =
       ap (λ (x : List ℕ). moved x (at held k) (at to k) (getD x (at held k) 0)) e
       ∙ ap (λ (x : ℕ). moved (settled l sides k) (at held k) (at x k) (getD (settled l sides k) (at held k) 0)) w
@@ -163,7 +166,8 @@ module _ (place amount : ℕ → ℕ) (l : List ℕ) where
   raised-at n j own h g = put-at place (λ k. getD l (place k) 0 + amount k) l n j 0 own h g
 
 -- one place more
-module _ (place amount : ℕ → ℕ) (l : List ℕ) (own : (i k : ℕ) → place i ≡ place k → i ≡ k) (n : ℕ) (out : List ℕ) (v : ℕ) (e : out ≡ raised place amount l n) (w : v ≡ amount n) where
+module _ (place amount : ℕ → ℕ) (l : List ℕ) (own : (i k : ℕ) → place i ≡ place k → i ≡ k) (n : ℕ)
+    (out : List ℕ) (v : ℕ) (e : out ≡ raised place amount l n) (w : v ≡ amount n) where
   grows : getD out (place n) 0 + v ≡ getD l (place n) 0 + amount n
   grows = omega (arith, ap (λ (x : List ℕ). getD x (place n) 0) e, raised-later place amount l n n own (omega arith))
 

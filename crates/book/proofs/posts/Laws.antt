@@ -57,7 +57,8 @@ module _ (u : Setup) (y : Year) (s : List ℕ) where
       move (taken m) f = inner m f
       move (declined i) f = cc
 
-      go : (x : Answer (List ℕ)) → checked (turnChecks u y) s ≡ x → onTaken x (λ t. onTaken (moveAt (u .outline) (u .numbers) t) (λ m. checked (check (hasRoom (y .posts) m) full ∷ []) m)) ≡ declined n
+      go : (x : Answer (List ℕ)) → checked (turnChecks u y) s ≡ x
+          → onTaken x (λ t. onTaken (moveAt (u .outline) (u .numbers) t) (λ m. checked (check (hasRoom (y .posts) m) full ∷ []) m)) ≡ declined n
           → onTaken x (λ t. onTaken (moveAt (u .outline) (u .numbers) t) (entered u y)) ≡ declined n
       go (taken t) h f = move (moveAt (u .outline) (u .numbers) t) f
       go (declined i) h f = cc
@@ -235,7 +236,8 @@ module _ (t : Turn) where
     turn-taken f = next-is ∙ on-there u y bytes m (admits u y bytes m e) ∙ rw f
 
     -- by the lists as they were entered
-    pub turn-entered : (store sums handled : List ℕ) (r closed : Bool) → Entered (u .counted) (u .sides) (y .store) (y .sums) (y .handled) m store sums handled r → r ≡ true → closed ≡ closes m
+    pub turn-entered : (store sums handled : List ℕ) (r closed : Bool) → Entered (u .counted) (u .sides) (y .store) (y .sums) (y .handled) m store sums handled r
+        → r ≡ true → closed ≡ closes m
         → all (t .place + 1) ≡ taken (yearWith store sums handled (y .posts + 1) closed)
     turn-entered store sums handled r closed w q k =
         turn-taken (sym (w .there) ∙ q)

@@ -57,7 +57,8 @@ module _ (block : List ℕ) (long : length block ≡ 512) (head : List ℕ) (eig
         ∙ ap₂ (λ (x y : List ℕ). x ++ (tail ++ y)) first-part (drop-of-length-le m {i = 508 + length tail} (omega (arith, same, long, four)))
         ∙ ap (λ (x : List ℕ). (head ++ bodyOf block) ++ x) (append-nil tail)
 
-sums-are : (p q w z a b : ℕ) → p ≡ a % 256 → q ≡ a / 256 → w ≡ b % 256 → z ≡ b / 256 → a < 65536 → b < 65536 → p ∷ q ∷ w ∷ z ∷ [] ≡ littleEndian 2 a ++ littleEndian 2 b
+sums-are : (p q w z a b : ℕ) → p ≡ a % 256 → q ≡ a / 256 → w ≡ b % 256 → z ≡ b / 256 → a < 65536
+    → b < 65536 → p ∷ q ∷ w ∷ z ∷ [] ≡ littleEndian 2 a ++ littleEndian 2 b
 unfolding littleEndian
 sums-are p q w z a b p= q= w= z= h k =
     ap₂ (λ (x y : ℕ). x ∷ y ∷ w ∷ z ∷ []) p= (q= ∙ two-bytes a h) ∙ ap₂ (λ (x y : ℕ). a % 256 ∷ a / 256 % 256 ∷ x ∷ y ∷ []) w= (z= ∙ two-bytes b k)

@@ -102,7 +102,8 @@ module _ {A B : Type 0} (x : A) (y : B) where
   other-declined (taken k) d e = let z : _≡_ {A = ℕ} 0 1 = cc in absurd (omega arith)
   other-declined (declined n) d e = cc
 
-  other-taken : (a : Answer Row) → Accepted ≡ verdictOf (onTaken a (λ _. taken x)) → (onTaken a (λ _. taken y) ≡ taken y) × (Accepted ≡ verdictOf a) × (onTaken a (λ _. taken x) ≡ taken x)
+  other-taken : (a : Answer Row) → Accepted ≡ verdictOf (onTaken a (λ _. taken x))
+      → (onTaken a (λ _. taken y) ≡ taken y) × (Accepted ≡ verdictOf a) × (onTaken a (λ _. taken x) ≡ taken x)
   other-taken (taken k) e = (refl, refl, refl)
   other-taken (declined n) e = let z : _≡_ {A = ℕ} 0 1 = cc in absurd (omega arith)
 
@@ -156,7 +157,8 @@ module _ (p : Page) (sound : Sound p) (s : List ℕ) where
         → bytes ≡ placed (p .bytes) (p .filled) (blockOf 3 10 (u .blocks) (bodyOf block)) → length bytes ≡ length (p .bytes)
         → Answers p (postOn p s) Accepted (pageOf bytes (p .filled + 512) (freshDraft q))
     tenth-answers bytes block nine w b size =
-        finished-is p 10 block bytes q (postOn p s) sound (post-taken ∙ ap taken (tenth-finishes p s nine ∙ ap (finished p 10) (sym w))) (post-is ∙ sym (posted-finishes u nine)) (c .sound) b size
+        finished-is p 10 block bytes q (postOn p s) sound (post-taken ∙ ap taken (tenth-finishes p s nine ∙ ap (finished p 10) (sym w)))
+        (post-is ∙ sym (posted-finishes u nine)) (c .sound) b size
 
     -- another
     pub other-answers : (block : List ℕ) → (u .waiting ≡ 9 → ⊥) → block ≡ withPost (p .draft) s → Answers p (postOn p s) Accepted (pageOf (p .bytes) (p .filled) (draftOf q block))

@@ -81,7 +81,8 @@ returns-5 c =
     let k₃ = k₄ .before .before .before in
     let k₂ = k₃ .before .before .before in
     let k₁ = k₂ .before .before .before in
-    rw (← k₁ .before .is-in .ensures, in₁ k₁, ← k₂ .before .is-in2 .ensures, in₂ k₂, ← k₃ .before .is-in3 .ensures, in₃ k₃, ← k₄ .before .is-in4 .ensures, in₄ k₄) (c .is-in5 .ensures)
+    rw (← k₁ .before .is-in .ensures, in₁ k₁, ← k₂ .before .is-in2 .ensures, in₂ k₂, ← k₃ .before .is-in3 .ensures, in₃ k₃, ← k₄ .before .is-in4 .ensures, in₄ k₄)
+    (c .is-in5 .ensures)
 
 pub fields-fit-spec : {M : Type 1} → statement M
 fields-fit-spec =

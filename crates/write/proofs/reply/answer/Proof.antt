@@ -66,7 +66,8 @@ returns-2 : tie.Need-returns-2
 returns-2 c =
     let t = c .before .before .before .before .before .before in
     closed-replied (now (t .args .buffer)) (t .args .filled) (t .args .d) true (now (t .args .space)) (t .args .r) (c .closed .result) (c .closed .ensures) (t .pre .0)
-    (sym (ap (madeBy (pageOf (now (t .args .buffer)) (t .args .filled) (t .args .d)) (now (t .args .space))) (c .before .before .enum-told .given .1))) (sym (ap couldRead (c .before .before .enum-told .given .1)))
+    (sym (ap (madeBy (pageOf (now (t .args .buffer)) (t .args .filled) (t .args .d)) (now (t .args .space))) (c .before .before .enum-told .given .1)))
+    (sym (ap couldRead (c .before .before .enum-told .given .1)))
 
 returns-3 : tie.Need-returns-3
 returns-3 c =

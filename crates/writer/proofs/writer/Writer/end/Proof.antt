@@ -160,7 +160,8 @@ module _ {M : Type 1} (𝓤 : URA M) (H : Heap 𝓤) (A : Atoms 𝓤) (W : Given
         pass1 ! (init ! 12 refl (tt, tt)) $ pass0 ! $
         -- the outer borrow is opened
         move ! (17 ∷ []) $ fsplit ! $ fsplit3 ! $ drop ! $ move ! (19 ∷ []) $ split ! $ move ! (2 ∷ 3 ∷ 0 ∷ []) $ opens ! tt R {h = h ys n d} b o (λ vs.
-        spelt ! R (Is R) (shows 𝓤 H A R) (LL.vals (T.the-type (second κ′)) (T′.the-laws (second κ′))) (LL.tells (T.the-type (second κ′)) (T′.the-laws (second κ′))) fullShare (h ys n d) vs b o $
+        spelt ! R (Is R) (shows 𝓤 H A R) (LL.vals (T.the-type (second κ′)) (T′.the-laws (second κ′)))
+        (LL.tells (T.the-type (second κ′)) (T′.the-laws (second κ′))) fullShare (h ys n d) vs b o $
         use1 W (‵ (fat fullShare (T′.mir erased) b o (mach n d))) (W .laws .raw-at fullShare (T′.mir erased) b o (mach n d)) $
         move ! (1 ∷ []) $ peeks ! R (Is R) (shows 𝓤 H A R) (h ys n d) (mach n d ∷ []) (λ g. move ! (1 ∷ 0 ∷ []) $
         -- [the struct's cell; what a Writer owns; the open borrow; obs; auth; the inner token; true; _7; …; _6; …; _5; …; _4; …; _3; …; _2; …; _1; …; room for _0; …]
@@ -192,8 +193,10 @@ module _ {M : Type 1} (𝓤 : URA M) (H : Heap 𝓤) (A : Atoms 𝓤) (W : Given
         land ! (from ! (stop !)) (init ! 20 refl (LL.lawful K.the-type K′.the-laws 𝓤 H A W .typed r _ is .0)) $
         rewrite ! 20 (λ (u : Val). ‵ (fat fullShare K′.mir l₂ 0 u)) (ap only (LL.tells K.the-type K′.the-laws r _ is)) refl $
         -- the lifetime is ended, and the Writer is put together again at that list and at what `end_posts` returned
-        move ! (1 ∷ []) $ split ! $ lft-end ! tt $ move ! (0 ∷ 5 ∷ 3 ∷ []) $ use3 W (later (‵ (R .own (h (zs .0) (r .filled) (r .draft)) (mach (r .filled) (r .draft) ∷ [])) ⊛ ‵ (flft κ′ q′)))
-        (held.comes-home κ′ b′ o′ γ′ ys 𝓤 H A W q′ ν δ (zs .0) (r .filled) (r .draft) (held.room κ′ b′ o′ γ′ ys n d g) l (filled-fits r w is) (draft-is r w is)) $ await ! tt $ split ! $
+        move ! (1 ∷ []) $ split ! $ lft-end ! tt $ move ! (0 ∷ 5 ∷ 3 ∷ []) $ use3 W
+        (later (‵ (R .own (h (zs .0) (r .filled) (r .draft)) (mach (r .filled) (r .draft) ∷ [])) ⊛ ‵ (flft κ′ q′)))
+        (held.comes-home κ′ b′ o′ γ′ ys 𝓤 H A W q′ ν δ (zs .0) (r .filled) (r .draft) (held.room κ′ b′ o′ γ′ ys n d g) l
+        (filled-fits r w is) (draft-is r w is)) $ await ! tt $ split ! $
         -- [what the Writer owns; the inner token; true; the Taken's; …; the struct's cell; the open borrow; obs; auth; true; _7; …; _2; …; _1; …; room for _0; …]
         assigns ! (of-opd ! (load ! (from ! (fld ! refl (stop !))) (look-in ! 20 (sub ! 1 refl (whole !))))) (from ! (hop ! (look ! 22 refl) (fld ! refl (stop !))))
         (store-in ! 5 (sub ! 1 refl (whole !)) (tt, record { fits = filled-fits r w is })) $

@@ -150,7 +150,8 @@ module _ {M : Type 1} (𝓤 : URA M) (H : Heap 𝓤) (A : Atoms 𝓤) (W : Given
   -- what is had at exit
   abbrev left : Taken → List ℕ → List (Item 𝓤)
   left r zs =
-      ‵ (fobs γ (R .coded .code (h zs (r .filled) (r .draft)))) ∷ ‵ (fbor κ (Body (mem R) b o γ)) ∷ ‵ (flft κ q) ∷ ‵ (flft κ′ q′) ∷ (‵ (flft κ″ q″) ⊛ ‵ ftrue) ∷ ‵ Shr ∷ []
+      ‵ (fobs γ (R .coded .code (h zs (r .filled) (r .draft)))) ∷ ‵ (fbor κ (Body (mem R) b o γ)) ∷ ‵ (flft κ q) ∷
+      ‵ (flft κ′ q′) ∷ (‵ (flft κ″ q″) ⊛ ‵ ftrue) ∷ ‵ Shr ∷ []
 
   exits : (r : Taken) (zs : List ℕ) → Is Vd.the-row (r .verdict) (verdict-val (r .verdict) ∷ []) → Ensured r zs → ent 𝓤 (⋆ 𝓤 H A (left r zs)) (Post (verdict-val (r .verdict)))
   exits r zs v-is e =
@@ -161,20 +162,24 @@ module _ {M : Type 1} (𝓤 : URA M) (H : Heap 𝓤) (A : Atoms 𝓤) (W : Given
       nothing ! $ move ! (2 ∷ 0 ∷ []) $ fjoin ! $ move ! (1 ∷ 0 ∷ []) $ fjoin ! $
       owned ! Vd.the-row (Is Vd.the-row) (EL.makes Vd.the-type Vd′.the-plain 𝓤 H A) (r .verdict) _ v-is $ move ! (1 ∷ 0 ∷ []) $ done !
 
-  module _ (C : Calls 𝓤 H) (Λ : Loops 𝓤 H) (fm : FmC 𝓤 H (W .laws) C) (known : Triple 𝓤 (C #take-post) (TakePost 𝓤 H A at-mem run)) (p-is : Is (ShrSlice (named 2) κ″ u8) p (v ∷ [])) where
+  module _ (C : Calls 𝓤 H) (Λ : Loops 𝓤 H) (fm : FmC 𝓤 H (W .laws) C) (known : Triple 𝓤 (C #take-post) (TakePost 𝓤 H A at-mem run))
+      (p-is : Is (ShrSlice (named 2) κ″ u8) p (v ∷ [])) where
     walk : Asked → ent 𝓤 (onEntry 𝓤 H A post.signature (κ, (κ′, (κ″, tt))) (q, (q′, (q″, tt))) a vals) (WpFn 𝓤 H C Λ code.function (vptr b o ∷ v ∷ []) Post)
     walk sound =
         qed W ((‵ (flft κ q) ⊛ ‵ (flft κ′ q′) ⊛ ‵ (flft κ″ q″) ⊛ ‵ ftrue) ∷ ‵ (owns (MutRef (named 0) κ R ∷ ShrSlice (named 2) κ″ u8 ∷ []) a vals) ∷ []) ∵
         enter ! C Λ code.function (vptr b o ∷ v ∷ []) _ $
-        alloc1 ! (λ l₀. alloc1 ! (λ l₁. alloc1 ! (λ l₂. alloc1 ! (λ l₃. alloc1 ! (λ l₄. alloc1 ! (λ l₅. alloc1 ! (λ l₆. alloc1 ! (λ l₇. alloc1 ! (λ l₈. alloc0 ! $ params1 ! $
+        alloc1 ! (λ l₀. alloc1 ! (λ l₁. alloc1 ! (λ l₂. alloc1 ! (λ l₃.
+        alloc1 ! (λ l₄. alloc1 ! (λ l₅. alloc1 ! (λ l₆. alloc1 ! (λ l₇. alloc1 ! (λ l₈. alloc0 ! $ params1 ! $
         pass1 ! (init ! 14 refl (tt, tt)) $ pass1 ! (init ! 12 refl (shr-slice-lawful 𝓤 H A W (named 2) κ″ u8 .typed p _ p-is .0)) $ pass0 ! $
         -- the post's borrow is had twice, and the outer borrow is opened
         move ! (19 ∷ []) $ fsplit ! $ fsplit3 ! $ drop ! $ move ! (2 ∷ []) $ fsplit ! $ use1 W (‵ Shr ⊛ ‵ Shr) (shr-slice-copy 𝓤 H A W (named 2) κ″ u8 .twice p (v ∷ [])) $ split ! $
         move ! (23 ∷ []) $ split ! $ move ! (5 ∷ 6 ∷ 0 ∷ []) $ opens ! tt R {h = h ys n d} b o (λ vs.
-        spelt ! R (Is R) (shows 𝓤 H A R) (LL.vals (T.the-type (second κ′)) (T′.the-laws (second κ′))) (LL.tells (T.the-type (second κ′)) (T′.the-laws (second κ′))) fullShare (h ys n d) vs b o $
+        spelt ! R (Is R) (shows 𝓤 H A R) (LL.vals (T.the-type (second κ′)) (T′.the-laws (second κ′)))
+        (LL.tells (T.the-type (second κ′)) (T′.the-laws (second κ′))) fullShare (h ys n d) vs b o $
         use1 W (‵ (fat fullShare (T′.mir erased) b o (mach n d))) (W .laws .raw-at fullShare (T′.mir erased) b o (mach n d)) $
         move ! (1 ∷ []) $ peeks ! R (Is R) (shows 𝓤 H A R) (h ys n d) (mach n d ∷ []) (λ g. move ! (1 ∷ 0 ∷ []) $
-        -- [the struct's cell; what a Writer owns; the open borrow; obs; auth; the other tokens; the post's; again; true; _8; …; _7; …; _6; …; _5; …; _4; …; _3; …; _2; …; _1; …; room for _0; …]
+        -- [the struct's cell; what a Writer owns; the open borrow; obs; auth; the other tokens; the post's; again; true; _8; …; _7; …; _6; …; _5;
+        -- …; _4; …; _3; …; _2; …; _1; …; room for _0; …]
         assigns ! (of-opd ! (load ! (from ! (hop ! (look ! 23 refl) (fld ! refl (fld ! refl (stop !))))) (look-in ! 0 (sub ! 1 refl (sub ! 0 refl (whole !)))))) (from ! (stop !))
         (init ! 17 refl (tt, record { fits = held.room κ′ b′ o′ γ′ ys n d g .0 })) $
         assigns ! (addr ! (from ! (hop ! (look ! 23 refl) (fld ! refl (fld ! refl (hop ! (look-in ! 0 (sub ! 0 refl (sub ! 0 refl (whole !)))) (stop !))))))) (from ! (stop !))
@@ -194,7 +199,8 @@ module _ {M : Type 1} (𝓤 : URA M) (H : Heap 𝓤) (A : Atoms 𝓤) (W : Given
         calls-at ! fm (TakePost 𝓤 H A at-mem run) known (to-take ν δ) (and-then ! (load ! (from ! (stop !)) (look ! 12 refl)) (and-then ! (load ! (from ! (stop !)) (look ! 10 refl))
         (and-then ! (load ! (from ! (stop !)) (look ! 8 refl)) (and-then ! (load ! (from ! (stop !)) (look ! 20 refl)) (no-more !))))) (λ w.
         use1 W (later (some (λ (r : Taken). (tokens ν ⊛ ‵ (K.the-row .own r (w ∷ [])))
-        ⊛ raw (ensured 𝓤 H A take-post.ended (take-post.clauses 𝓤 H A at-mem run) (ν ∷ [], (κ″, tt)) (slice-at b′ o′ δ ys, (n, (d, (p, tt)))) tt r)))) (id⊢ 𝓤 _) $ await ! tt $ pick ! (λ r.
+        ⊛ raw (ensured 𝓤 H A take-post.ended (take-post.clauses 𝓤 H A at-mem run) (ν ∷ [], (κ″, tt)) (slice-at b′ o′ δ ys, (n, (d, (p, tt)))) tt r))))
+        (id⊢ 𝓤 _) $ await ! tt $ pick ! (λ r.
         -- what `take_post` ensures, at some last list
         split ! $ move ! (1 ∷ []) $ use1 W (some (λ (zs : List ℕ × (Unit {0} × (Unit {0} × (Unit {0} × Unit {0})))).
         ‵ (lasts take-post.ended (ν ∷ [], (κ″, tt)) (slice-at b′ o′ δ ys, (n, (d, (p, tt)))) zs) ⊛ raw (fact 𝓤 (Ensured r (zs .0))))) (id⊢ 𝓤 _) $ pick ! (λ zs.
@@ -203,9 +209,12 @@ module _ {M : Type 1} (𝓤 : URA M) (H : Heap 𝓤) (A : Atoms 𝓤) (W : Given
         land ! (from ! (stop !)) (init ! 21 refl (LL.lawful K.the-type K′.the-laws 𝓤 H A W .typed r _ is .0)) $
         rewrite ! 21 (λ (u : Val). ‵ (fat fullShare K′.mir l₃ 0 u)) (ap only (LL.tells K.the-type K′.the-laws r _ is)) refl $
         -- the lifetime is ended, and the Writer is put together again at that list and at what `take_post` returned
-        move ! (1 ∷ []) $ split ! $ lft-end ! tt $ move ! (0 ∷ 5 ∷ 3 ∷ []) $ use3 W (later (‵ (R .own (h (zs .0) (r .filled) (r .draft)) (mach (r .filled) (r .draft) ∷ [])) ⊛ ‵ (flft κ′ q′)))
-        (held.comes-home κ′ b′ o′ γ′ ys 𝓤 H A W q′ ν δ (zs .0) (r .filled) (r .draft) (held.room κ′ b′ o′ γ′ ys n d g) l (filled-fits r w is) (draft-is r w is)) $ await ! tt $ split ! $
-        -- [what the Writer owns; the inner token; the post's token; the Taken's; …; the struct's cell; the open borrow; obs; auth; the post's; true; _8; …; _3; …; _2; …; _1; …; room for _0; …]
+        move ! (1 ∷ []) $ split ! $ lft-end ! tt $ move ! (0 ∷ 5 ∷ 3 ∷ []) $ use3 W
+        (later (‵ (R .own (h (zs .0) (r .filled) (r .draft)) (mach (r .filled) (r .draft) ∷ [])) ⊛ ‵ (flft κ′ q′)))
+        (held.comes-home κ′ b′ o′ γ′ ys 𝓤 H A W q′ ν δ (zs .0) (r .filled) (r .draft) (held.room κ′ b′ o′ γ′ ys n d g) l
+        (filled-fits r w is) (draft-is r w is)) $ await ! tt $ split ! $
+        -- [what the Writer owns; the inner token; the post's token; the Taken's; …; the struct's cell; the open borrow; obs; auth; the post's; true;
+        -- _8; …; _3; …; _2; …; _1; …; room for _0; …]
         assigns ! (of-opd ! (load ! (from ! (fld ! refl (stop !))) (look-in ! 21 (sub ! 1 refl (whole !))))) (from ! (hop ! (look ! 25 refl) (fld ! refl (stop !))))
         (store-in ! 5 (sub ! 1 refl (whole !)) (tt, record { fits = filled-fits r w is })) $
         assigns ! (of-opd ! (load ! (from ! (fld ! refl (stop !))) (look-in ! 21 (sub ! 2 refl (whole !))))) (from ! (hop ! (look ! 25 refl) (fld ! refl (stop !))))

@@ -152,7 +152,8 @@ module _ {M : Type 1} (𝓤 : URA M) (H : Heap 𝓤) (A : Atoms 𝓤) (W : Given
   -- what is had at exit
   abbrev left : Taken → List ℕ → List (Item 𝓤)
   left r zs =
-      ‵ (fobs γ (R .coded .code (h zs (r .filled) (r .draft)))) ∷ ‵ (fbor κ (Body (mem R) b o γ)) ∷ ‵ (flft κ q) ∷ ‵ (flft κ′ q′) ∷ (‵ (flft κ″ q″) ⊛ ‵ ftrue) ∷ ‵ Shr ∷ []
+      ‵ (fobs γ (R .coded .code (h zs (r .filled) (r .draft)))) ∷ ‵ (fbor κ (Body (mem R) b o γ)) ∷ ‵ (flft κ q) ∷
+      ‵ (flft κ′ q′) ∷ (‵ (flft κ″ q″) ⊛ ‵ ftrue) ∷ ‵ Shr ∷ []
 
   exits : (r : Taken) (zs : List ℕ) → Is Vd.the-row (r .verdict) (verdict-val (r .verdict) ∷ []) → Ensured r zs → ent 𝓤 (⋆ 𝓤 H A (left r zs)) (Post (verdict-val (r .verdict)))
   exits r zs v-is e =
@@ -161,13 +162,17 @@ module _ {M : Type 1} (𝓤 : URA M) (H : Heap 𝓤) (A : Atoms 𝓤) (W : Given
       (r .verdict) (h zs (r .filled) (r .draft), (tt, (tt, (tt, tt)))) (tt, (tt, (tt, (tt, tt))))) $ says ! (refl, e) $
       move ! (3 ∷ 4 ∷ []) $ join ! $ move ! (3 ∷ 0 ∷ []) $ join ! $ frame ! $ feqI ! (List Val) (vptr b o ∷ []) (vptr b o ∷ []) refl $ fjoin3 ! $
       nothing ! $ move ! (2 ∷ 0 ∷ []) $ fjoin ! $
-      owned ! u8 (Is u8) (uint-makes 𝓤 H A W w8) count _ (refl, count-fits) $ fjoin ! $ owned ! u8 (Is u8) (uint-makes 𝓤 H A W w8) kind _ (refl, kind-fits) $ fjoin ! $ move ! (1 ∷ 0 ∷ []) $ fjoin ! $
+      owned ! u8 (Is u8) (uint-makes 𝓤 H A W w8) count _ (refl, count-fits) $ fjoin ! $ owned ! u8 (Is u8)
+      (uint-makes 𝓤 H A W w8) kind _ (refl, kind-fits) $ fjoin ! $ move ! (1 ∷ 0 ∷ []) $ fjoin ! $
       owned ! Vd.the-row (Is Vd.the-row) (EL.makes Vd.the-type Vd′.the-plain 𝓤 H A) (r .verdict) _ v-is $ move ! (1 ∷ 0 ∷ []) $ done !
 
-  module _ (C : Calls 𝓤 H) (Λ : Loops 𝓤 H) (fm : FmC 𝓤 H (W .laws) C) (known : Triple 𝓤 (C #take-set-up) (TakeSetUp 𝓤 H A at-mem run)) (p-is : Is (ShrSlice (named 2) κ″ u8) p (v ∷ [])) where
-    walk : Asked → ent 𝓤 (onEntry 𝓤 H A set-up.signature (κ, (κ′, (κ″, tt))) (q, (q′, (q″, tt))) a vals) (WpFn 𝓤 H C Λ code.function (vptr b o ∷ vint w8 kind ∷ vint w8 count ∷ v ∷ []) Post)
+  module _ (C : Calls 𝓤 H) (Λ : Loops 𝓤 H) (fm : FmC 𝓤 H (W .laws) C) (known : Triple 𝓤 (C #take-set-up) (TakeSetUp 𝓤 H A at-mem run))
+      (p-is : Is (ShrSlice (named 2) κ″ u8) p (v ∷ [])) where
+    walk : Asked → ent 𝓤 (onEntry 𝓤 H A set-up.signature (κ, (κ′, (κ″, tt))) (q, (q′, (q″, tt))) a vals)
+        (WpFn 𝓤 H C Λ code.function (vptr b o ∷ vint w8 kind ∷ vint w8 count ∷ v ∷ []) Post)
     walk sound =
-        qed W ((‵ (flft κ q) ⊛ ‵ (flft κ′ q′) ⊛ ‵ (flft κ″ q″) ⊛ ‵ ftrue) ∷ ‵ (owns (MutRef (named 0) κ R ∷ u8 ∷ u8 ∷ ShrSlice (named 2) κ″ u8 ∷ []) a vals) ∷ []) ∵
+        qed W ((‵ (flft κ q) ⊛ ‵ (flft κ′ q′) ⊛ ‵ (flft κ″ q″) ⊛ ‵ ftrue) ∷
+        ‵ (owns (MutRef (named 0) κ R ∷ u8 ∷ u8 ∷ ShrSlice (named 2) κ″ u8 ∷ []) a vals) ∷ []) ∵
         enter ! C Λ code.function (vptr b o ∷ vint w8 kind ∷ vint w8 count ∷ v ∷ []) _ $
         alloc1 ! (λ l₀. alloc1 ! (λ l₁. alloc1 ! (λ l₂. alloc1 ! (λ l₃. alloc1 ! (λ l₄. alloc1 ! (λ l₅. alloc1 ! (λ l₆. alloc1 ! (λ l₇. alloc1 ! (λ l₈.
         alloc1 ! (λ l₉. alloc1 ! (λ l₁₀. alloc0 ! $ params1 ! $
@@ -177,7 +182,8 @@ module _ {M : Type 1} (𝓤 : URA M) (H : Heap 𝓤) (A : Atoms 𝓤) (W : Given
         move ! (23 ∷ []) $ fsplit ! $ fsplit3 ! $ drop ! $ move ! (2 ∷ []) $ fsplit ! $ drop ! $ fsplit ! $ drop ! $ fsplit ! $
         use1 W (‵ Shr ⊛ ‵ Shr) (shr-slice-copy 𝓤 H A W (named 2) κ″ u8 .twice p (v ∷ [])) $ split ! $
         move ! (27 ∷ []) $ split ! $ move ! (5 ∷ 6 ∷ 0 ∷ []) $ opens ! tt R {h = h ys n d} b o (λ vs.
-        spelt ! R (Is R) (shows 𝓤 H A R) (LL.vals (T.the-type (second κ′)) (T′.the-laws (second κ′))) (LL.tells (T.the-type (second κ′)) (T′.the-laws (second κ′))) fullShare (h ys n d) vs b o $
+        spelt ! R (Is R) (shows 𝓤 H A R) (LL.vals (T.the-type (second κ′)) (T′.the-laws (second κ′)))
+        (LL.tells (T.the-type (second κ′)) (T′.the-laws (second κ′))) fullShare (h ys n d) vs b o $
         use1 W (‵ (fat fullShare (T′.mir erased) b o (mach n d))) (W .laws .raw-at fullShare (T′.mir erased) b o (mach n d)) $
         move ! (1 ∷ []) $ peeks ! R (Is R) (shows 𝓤 H A R) (h ys n d) (mach n d ∷ []) (λ g. move ! (1 ∷ 0 ∷ []) $
         -- [the struct's cell; what a Writer owns; the open borrow; obs; auth; the other tokens; the body's; again; true;
@@ -202,7 +208,8 @@ module _ {M : Type 1} (𝓤 : URA M) (H : Heap 𝓤) (A : Atoms 𝓤) (W : Given
         (and-then ! (load ! (from ! (stop !)) (look ! 8 refl)) (and-then ! (load ! (from ! (stop !)) (look ! 24 refl))
         (and-then ! (load ! (from ! (stop !)) (look ! 22 refl)) (and-then ! (load ! (from ! (stop !)) (look ! 20 refl)) (no-more !))))))) (λ w.
         use1 W (later (some (λ (r : Taken). (tokens ν ⊛ ‵ (K.the-row .own r (w ∷ [])))
-        ⊛ raw (ensured 𝓤 H A take-set-up.ended (take-set-up.clauses 𝓤 H A at-mem run) (ν ∷ [], (κ″, tt)) (slice-at b′ o′ δ ys, (n, (d, a .1))) tt r)))) (id⊢ 𝓤 _) $ await ! tt $ pick ! (λ r.
+        ⊛ raw (ensured 𝓤 H A take-set-up.ended (take-set-up.clauses 𝓤 H A at-mem run) (ν ∷ [], (κ″, tt)) (slice-at b′ o′ δ ys, (n, (d, a .1))) tt r))))
+        (id⊢ 𝓤 _) $ await ! tt $ pick ! (λ r.
         -- what `take_set_up` ensures, at some last list
         split ! $ move ! (1 ∷ []) $ use1 W (some (λ (zs : List ℕ × (Unit {0} × (Unit {0} × (Unit {0} × (Unit {0} × (Unit {0} × Unit {0})))))).
         ‵ (lasts take-set-up.ended (ν ∷ [], (κ″, tt)) (slice-at b′ o′ δ ys, (n, (d, a .1))) zs) ⊛ raw (fact 𝓤 (Ensured r (zs .0))))) (id⊢ 𝓤 _) $ pick ! (λ zs.
@@ -211,8 +218,10 @@ module _ {M : Type 1} (𝓤 : URA M) (H : Heap 𝓤) (A : Atoms 𝓤) (W : Given
         land ! (from ! (stop !)) (init ! 21 refl (LL.lawful K.the-type K′.the-laws 𝓤 H A W .typed r _ is .0)) $
         rewrite ! 21 (λ (u : Val). ‵ (fat fullShare K′.mir l₅ 0 u)) (ap only (LL.tells K.the-type K′.the-laws r _ is)) refl $
         -- the lifetime is ended, and the Writer is put together again at that list and at what `take_set_up` returned
-        move ! (1 ∷ []) $ split ! $ lft-end ! tt $ move ! (0 ∷ 5 ∷ 3 ∷ []) $ use3 W (later (‵ (R .own (h (zs .0) (r .filled) (r .draft)) (mach (r .filled) (r .draft) ∷ [])) ⊛ ‵ (flft κ′ q′)))
-        (held.comes-home κ′ b′ o′ γ′ ys 𝓤 H A W q′ ν δ (zs .0) (r .filled) (r .draft) (held.room κ′ b′ o′ γ′ ys n d g) l (filled-fits r w is) (draft-is r w is)) $ await ! tt $ split ! $
+        move ! (1 ∷ []) $ split ! $ lft-end ! tt $ move ! (0 ∷ 5 ∷ 3 ∷ []) $ use3 W
+        (later (‵ (R .own (h (zs .0) (r .filled) (r .draft)) (mach (r .filled) (r .draft) ∷ [])) ⊛ ‵ (flft κ′ q′)))
+        (held.comes-home κ′ b′ o′ γ′ ys 𝓤 H A W q′ ν δ (zs .0) (r .filled) (r .draft) (held.room κ′ b′ o′ γ′ ys n d g) l
+        (filled-fits r w is) (draft-is r w is)) $ await ! tt $ split ! $
         -- [what the Writer owns; the inner token; the body's token; the Taken's; …; the struct's cell; the open borrow; obs; auth; the body's; true;
         -- _10; …; _5; …; _4; …; _3; …; _2; …; _1; …; room for _0; …]
         assigns ! (of-opd ! (load ! (from ! (fld ! refl (stop !))) (look-in ! 21 (sub ! 1 refl (whole !))))) (from ! (hop ! (look ! 29 refl) (fld ! refl (stop !))))
@@ -234,7 +243,8 @@ module _ {M : Type 1} (𝓤 : URA M) (H : Heap 𝓤) (A : Atoms 𝓤) (W : Given
 module _ {M : Type 1} (𝓤 : URA M) (H : Heap 𝓤) (A : Atoms 𝓤) (W : Given 𝓤 H A) (mem : Memory → SProp 𝓤) (run : Routine → Fun 𝓤) where
   set-up-walks : (C : Calls 𝓤 H) (Λ : Loops 𝓤 H) → FmC 𝓤 H (W .laws) C → Triple 𝓤 (C #take-set-up) (TakeSetUp 𝓤 H A mem run)
       → Walks 𝓤 H A set-up.ended stayed (WpFn 𝓤 H C Λ code.function) (set-up.clauses 𝓤 H A mem run)
-  set-up-walks C Λ fm known = walked 𝓤 H A set-up.ended stayed (set-up.clauses 𝓤 H A mem run) (WpFn 𝓤 H C Λ code.function) (λ κs. (ptr-vals, (uint-vals w8, (uint-vals w8, (slice-vals, tt)))))
+  set-up-walks C Λ fm known = walked 𝓤 H A set-up.ended stayed (set-up.clauses 𝓤 H A mem run) (WpFn 𝓤 H C Λ code.function)
+      (λ κs. (ptr-vals, (uint-vals w8, (uint-vals w8, (slice-vals, tt)))))
       (λ κs. (mut-tells (named 0) (κs .0) (T.the-row (namedLft 3 1 tt κs)), (uint-tells w8, (uint-tells w8, (shr-slice-tells (named 2) (κs .1 .1 .0) u8, tt)))))
       (λ κs qs bounds a g are. needs 𝓤 (Sound (page (a .0 .now))) _
       (walk 𝓤 H A W mem run (κs .0) (κs .1 .0) (κs .1 .1 .0) bounds (qs .0) (qs .1 .0) (qs .1 .1 .0) (a .0 .ptr .0) (a .0 .ptr .1) (a .0 .name)
@@ -248,7 +258,8 @@ byte-goes 𝓤 H A W = goes-none 𝓤 H A W 3 (λ _. u8) yes (λ κs x f. refl)
 set-up-meets : {M : Type 1} (𝓤 : URA M) (H : Heap 𝓤) (A : Atoms 𝓤) → Given 𝓤 H A → (mem : Memory → SProp 𝓤) (run : Routine → Fun 𝓤) (𝓣 : Tables 𝓤 H)
     → Triple 𝓤 (𝓣 .C #take-set-up) (TakeSetUp 𝓤 H A mem run) → Meets 𝓤 H A set-up.signature (WpFn 𝓤 H (𝓣 .C) (𝓣 .Λ) code.function) (set-up.spec 𝓤 H A mem run)
 set-up-meets 𝓤 H A W mem run 𝓣 known =
-    walk-meets 𝓤 H A set-up.ended stayed W (goes-ref 𝓤 H A W 3 0 tt WriterS, (byte-goes 𝓤 H A W, (byte-goes 𝓤 H A W, (goes-none-slice 𝓤 H A W 3 (2 ∷ []) tt (plain (λ _. u8)) yes, tt))))
+    walk-meets 𝓤 H A set-up.ended stayed W
+    (goes-ref 𝓤 H A W 3 0 tt WriterS, (byte-goes 𝓤 H A W, (byte-goes 𝓤 H A W, (goes-none-slice 𝓤 H A W 3 (2 ∷ []) tt (plain (λ _. u8)) yes, tt))))
     (set-up.clauses 𝓤 H A mem run)
     (WpFn 𝓤 H (𝓣 .C) (𝓣 .Λ) code.function) (WpFn-mono 𝓤 H (W .laws) 𝓣 code.function) (set-up-walks 𝓤 H A W mem run (𝓣 .C) (𝓣 .Λ) (fmOf 𝓤 H (W .laws) 𝓣) known)
 
@@ -258,4 +269,5 @@ set-up-spec 𝓤 H 𝓜 𝓖 𝓡 =
     entered 𝓤 H (tripleOf 𝓤 H (𝓖 .A) set-up.signature (set-up.spec 𝓤 H (𝓖 .A) (𝓜 .mem) (𝓡 .run)))
     (tables 𝓤 H 𝓜 𝓡 code.env .C) (tables 𝓤 H 𝓜 𝓡 code.env .Λ) #set-up code.function (code.unfolded 𝓤 H 𝓜 𝓡)
     (set-up-meets 𝓤 H (𝓖 .A) (givenOf 𝓤 H 𝓜 𝓖) (𝓜 .mem) (𝓡 .run) (tablesOf 𝓤 H 𝓜 (tables 𝓤 H 𝓜 𝓡 code.env))
-    (cited 𝓤 H (TakeSetUp 𝓤 H (𝓖 .A) (𝓜 .mem) (𝓡 .run)) 𝓜 𝓡 code.env #take-set-up take-set-up-def.routine code.calls-writer·page·take-set-up (take-set-up-thm.met 𝓤 H 𝓜 𝓖 𝓡)))
+    (cited 𝓤 H (TakeSetUp 𝓤 H (𝓖 .A) (𝓜 .mem) (𝓡 .run)) 𝓜 𝓡 code.env #take-set-up take-set-up-def.routine code.calls-writer·page·take-set-up
+    (take-set-up-thm.met 𝓤 H 𝓜 𝓖 𝓡)))
