@@ -4,9 +4,3 @@ pub mod Content
 pub mod Threshold
 pub mod Treatment
 pub mod Filed
-pub mod Binary64
-pub mod Pattern
-pub mod Coefficient
-pub mod Form
-pub mod Whole
-pub mod Loss

@@ -4,11 +4,11 @@ use mathlib.Core.Bool.{Bool}
 use mathlib.Core.List.{List, [], _∷_}
 use lib.Dec.{eqb}
 use lib.ListN.{length, getD}
-use Rattle.amounts.specs.Binary64.{valueOf}
-use Rattle.amounts.specs.Coefficient.{rowOf}
+use Rattle.losses.specs.Binary64.{valueOf}
+use Rattle.losses.specs.Coefficient.{rowOf}
 use Rattle.amounts.specs.Decline.{Answer, taken, declined, check, checked, onTaken, valueOr, layout, range}
-use Rattle.amounts.specs.Form.{unusedRanges, inRanges, inForm}
-use Rattle.amounts.specs.Loss.{lossOver}
+use Rattle.losses.specs.Form.{unusedRanges, inRanges, inForm}
+use Rattle.losses.specs.Loss.{lossOver}
 use Rattle.layout.specs.Posts.{postSize}
 use Rattle.layout.specs.declared.outline.Outline.{Outline}
 use Rattle.post.specs.Fields.{postAt}

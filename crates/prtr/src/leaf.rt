@@ -1,17 +1,17 @@
 // The calculations of the first library. Each that can decline returns 0 or document 01's number, and writes only where it returns 0.
 ghost use mathlib.Core.Path.{_≡_};
-ghost use Rattle.amounts.specs.Binary64.{valueOf};
+ghost use Rattle.losses.specs.Binary64.{valueOf};
 ghost use Rattle.amounts.specs.Content.{countedOf};
 ghost use Rattle.amounts.specs.Filed.{stepOf, filedOf};
-ghost use Rattle.amounts.specs.Loss.{vapourOf};
+ghost use Rattle.losses.specs.Loss.{vapourOf};
 ghost use Rattle.amounts.specs.Threshold.{dueOf};
 ghost use Rattle.amounts.specs.Treatment.{splitOf};
 ghost use Rattle.prtr.specs.Host.{numberOf, lent, oneOrZero};
 use amounts::content;
 use amounts::content::Counted;
 use amounts::filed;
-use amounts::loss;
-use amounts::loss::Loss;
+use losses::loss;
+use losses::loss::Loss;
 use amounts::threshold;
 use amounts::threshold::Due;
 use amounts::treatment;

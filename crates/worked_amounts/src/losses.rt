@@ -1,6 +1,6 @@
 // Losses called alone: the form, the management number and four floats by their bits, and the micrograms.
 use crate::line;
-use amounts::loss::Loss;
+use losses::loss::Loss;
 
 const ZERO: u64 = 0x0000000000000000;
 
@@ -87,7 +87,7 @@ fn loss(form: u8, number: u16, w: u64, u: u64, p: u64, q: u64) {
     line::pattern(u);
     line::pattern(p);
     line::pattern(q);
-    match amounts::loss::vapour_loss(form, number, w, u, p, q) {
+    match losses::loss::vapour_loss(form, number, w, u, p, q) {
         Loss::Micrograms(n) => line::last(n),
         Loss::Declined(d) => line::declined(d),
     }

@@ -1,7 +1,7 @@
 // A float read from its bits, in a range from 0 that has no end, and its whole part.
 use crate::line;
-use amounts::pattern::FloatRead;
-use amounts::pattern::Range;
+use losses::pattern::FloatRead;
+use losses::pattern::Range;
 
 const PATTERNS: [u64; 21] = [
     // Zero of either sign, and the least float.
@@ -36,14 +36,14 @@ const PATTERNS: [u64; 21] = [
 
 fn show(bits: u64) {
     line::pattern(bits);
-    match amounts::pattern::read_float(
+    match losses::pattern::read_float(
         bits,
         Range {
             low: 0.0,
             high: 1.0 / 0.0,
         },
     ) {
-        FloatRead::Value(x) => line::last(amounts::whole::whole_part(x)),
+        FloatRead::Value(x) => line::last(losses::whole::whole_part(x)),
         FloatRead::Declined(d) => line::declined(d),
     }
 }

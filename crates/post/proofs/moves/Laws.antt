@@ -7,13 +7,13 @@ use native.Mathlib.Omega.{arith}
 use borrow.Author.Tests.{eq-eqb, ne-eqb}
 use lib.Dec.{eqb}
 use lib.ListN.{length, getD}
-use Rattle.amounts.specs.Binary64.{valueOf}
-use Rattle.amounts.specs.Coefficient.{rowOf}
+use Rattle.losses.specs.Binary64.{valueOf}
+use Rattle.losses.specs.Coefficient.{rowOf}
 use Rattle.amounts.specs.Decline.{Answer, taken, declined, check, checked, onTaken, isTaken, layout, range}
-use Rattle.amounts.specs.Form.{formOf, inForm}
-use Rattle.amounts.specs.Loss.{lossOf, lossOver}
+use Rattle.losses.specs.Form.{formOf, inForm}
+use Rattle.losses.specs.Loss.{lossOf, lossOver}
 use Rattle.amounts.proofs.decline.Laws.{one-taken, was-taken}
-use Rattle.amounts.proofs.loss.Laws.{over-bounded}
+use Rattle.losses.proofs.loss.Laws.{over-bounded}
 use Rattle.amounts.specs.declared.decline.Decline.{Decline}
 use Rattle.layout.specs.declared.outline.Outline.{Outline}
 use Rattle.layout.specs.Verdict.{verdictOf}

@@ -4,7 +4,7 @@ use native.Mathlib.Omega.{arith}
 use borrow.Author.Needs.{needs}
 use denote.Ref.{now}
 use Rattle.amounts.specs.Decline.{taken}
-use Rattle.amounts.specs.Loss as losses
+use Rattle.losses.specs.Loss as losses
 use Rattle.post.specs.Fields.{postAt}
 use Rattle.post.specs.Kind.{Row}
 use Rattle.post.specs.Moves.{measured, moveOf, laidOut, laidAs, laidAnswer}

@@ -1,5 +1,5 @@
 use mathlib.Core.Path.{sym, ap, _∙_}
-use Rattle.amounts.specs.Loss as loss
+use Rattle.losses.specs.Loss as loss
 use Rattle.prtr.proofs.Host.{told}
 use borrow.Author.Needs.{needs}
 use Rattle.prtr.proofs.leaf.prtr_loss.Statement.{statement}

@@ -1,0 +1,34 @@
+use lib.Ieee.{ofBits, round}
+use borrow.Author.Needs.{needs}
+use Rattle.losses.specs.Form.{stationRanges, formOf}
+use Rattle.losses.specs.declared.form.Inputs.{Inputs}
+use Rattle.losses.specs.declared.form.LossForm.{LossForm}
+use Rattle.losses.specs.declared.form.LossForm.the-variants.{Station}
+use Rattle.losses.proofs.form.Laws.{station-upward, filled}
+use Rattle.losses.proofs.form.read_station.Statement.{statement}
+use Rattle.losses.proofs.form.read_station.Tie as tie
+
+abbrev of-inputs : Inputs → LossForm
+of-inputs x = Station (x .w) (x .u) (x .p) (x .q)
+
+read-inputs-requires : tie.Need-read-inputs-requires
+unfolding ofBits round
+read-inputs-requires c κs = station-upward
+
+enum-known-x : tie.Need-enum-known-x
+enum-known-x c = search needs
+
+enum-known-d : tie.Need-enum-known-d
+enum-known-d c = search needs
+
+returns : tie.Need-returns
+unfolding formOf ofBits round
+returns c = filled _ _ _ _ of-inputs stationRanges _ _ (c .before .before .before .read-inputs .ensures) (c .before .x .given .1)
+
+returns-2 : tie.Need-returns-2
+unfolding formOf ofBits round
+returns-2 c = filled _ _ _ _ of-inputs stationRanges _ _ (c .before .before .before .read-inputs .ensures) (c .before .d .given .1)
+
+pub read-station-spec : {M : Type 1} → statement M
+read-station-spec =
+    tie.close (tie.spec read-inputs-requires enum-known-x enum-known-d returns returns-2)
