@@ -10,14 +10,13 @@ use lib.ListN.{length, getD, take, drop, replicate, length-append, length-drop, 
 use lib.Seq.{drop-at, take-append-le, drop-append-le, take-all}
 use Rattle.amounts.specs.Decline.{Answer, taken, check, checked, onTaken, layout}
 use Rattle.amounts.proofs.decline.Laws.{was-taken}
-use Rattle.layout.specs.Bytes.{allZero, padded}
+use Rattle.layout.specs.Bytes.{allZero, padded, within}
 use Rattle.layout.specs.Each.{allTo}
 use Rattle.layout.specs.Frame.{bodyOf, frameChecks, blockOf}
 use Rattle.layout.specs.Outline.{mayPost}
 use Rattle.layout.specs.Posts.{postIn, ownChecks}
-use Rattle.layout.specs.Setup.{within}
 use Rattle.layout.specs.declared.outline.Outline.{Outline}
-use Rattle.layout.specs.declared.setup.Setup.{Setup}
+use Rattle.setup.specs.declared.setup.Setup.{Setup}
 use Rattle.layout.proofs.Checked.{passed}
 use Rattle.layout.proofs.frame.Made.{kind-made, count-made, body-made}
 use Rattle.post.specs.Fields.{postAt}

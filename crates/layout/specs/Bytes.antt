@@ -1,8 +1,8 @@
 -- Stored numbers and zero places (document 01, "Amounts": "Stored numbers are little-endian").
 use Prim.Native.Nat.{ℕ, zero, suc, _+_, _-_, _*_, _/_, _%_}
-use mathlib.Core.Bool.{Bool}
+use mathlib.Core.Bool.{Bool, _&&_}
 use mathlib.Core.List.{List, [], _∷_, _++_}
-use lib.Dec.{eqb}
+use lib.Dec.{eqb, leb}
 use lib.ListN.{length, getD, take, drop, replicate}
 use Rattle.layout.specs.Each.{allTo, listTo}
 
@@ -32,3 +32,6 @@ littleEndian (suc n) x = x % 256 ∷ littleEndian n (x / 256)
 -- bytes with zeros behind them, n in all
 abbrev pub padded : ℕ → List ℕ → List ℕ
 padded n s = s ++ replicate (n - length s) 0
+
+abbrev pub within : ℕ → ℕ → ℕ → Bool
+within low high n = leb low n && leb n high

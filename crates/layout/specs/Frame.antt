@@ -6,9 +6,8 @@ use lib.Dec.{eqb}
 use lib.ListN.{length, getD, take, drop}
 use Rattle.amounts.specs.Decline as number
 use Rattle.amounts.specs.Decline.{Check, check}
-use Rattle.layout.specs.Bytes.{le, part, littleEndian}
+use Rattle.layout.specs.Bytes.{le, part, littleEndian, within}
 use Rattle.layout.specs.Each.{sumTo}
-use Rattle.layout.specs.Setup.{within}
 use Rattle.layout.specs.declared.frame.CheckSums.{CheckSums}
 
 -- "0–3 "PRTR" in ASCII; 4 kind; 5 count; 6–7 blocks accepted so far; 8–507 body"

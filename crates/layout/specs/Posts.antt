@@ -6,9 +6,8 @@ use lib.Dec.{eqb}
 use lib.ListN.{length, take, drop}
 use Rattle.amounts.specs.Decline as number
 use Rattle.amounts.specs.Decline.{Check, check}
-use Rattle.layout.specs.Bytes.{allZero}
+use Rattle.layout.specs.Bytes.{allZero, within}
 use Rattle.layout.specs.Outline.{mayPost}
-use Rattle.layout.specs.Setup.{within}
 use Rattle.layout.specs.declared.outline.Outline.{Outline}
 
 -- the bytes of a post

@@ -2,7 +2,7 @@
 ghost use mathlib.Core.Path.{_≡_};
 ghost use Prim.Native.Nat.{min, _<_};
 ghost use lib.ListN.{drop, getD};
-ghost use Rattle.layout.specs.Bytes.{le, part, allZero};
+ghost use Rattle.layout.specs.Bytes.{le, part, within, allZero};
 
 fn wide(x: u8) -> u16
     ensures { λ r. ⌜ (r ≡ x) × (r < 256) ⌝ }
@@ -93,4 +93,13 @@ pub fn zero_between(s: &[u8], from: usize, to: usize) -> bool
     ensures { λ r. ⌜ r ≡ allZero (part from to (now (s .entry))) ⌝ }
 {
     all_zero(between(s, from, to))
+}
+
+pub fn is_within(low: u8, high: u8, n: u8) -> bool
+    ensures { λ r. ⌜ r ≡ within low high n ⌝ }
+{
+    if n < low {
+        return false;
+    }
+    n <= high
 }

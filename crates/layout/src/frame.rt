@@ -6,7 +6,6 @@ ghost use Rattle.amounts.specs.Decline.{checked};
 ghost use Rattle.layout.specs.Verdict.{verdictOf};
 ghost use Rattle.layout.specs.Frame.{hasTag, sumsOf, frameChecks};
 use crate::bytes;
-use crate::setup;
 use crate::verdict::Verdict;
 use crate::verdict::row;
 use amounts::decline;
@@ -79,7 +78,7 @@ pub fn check_frame(number: u32, s: &[u8]) -> Verdict
     let sums = check_sums(s);
     let own = bytes::le16(s, 6) as u32;
     let next = row(own == number, decline::NOT_NEXT, Verdict::Accepted);
-    let kind = row(setup::is_within(1, 3, s[4]), decline::NOT_NEXT, next);
+    let kind = row(bytes::is_within(1, 3, s[4]), decline::NOT_NEXT, next);
     let weighted = row(
         bytes::le16(s, 510) == sums.weighted,
         decline::CHECK_SUM,

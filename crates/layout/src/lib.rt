@@ -1,8 +1,6 @@
-// What a block's frame and the bodies of its kinds say, their turns and limits, without a book.
+// What the bytes of a block say without a set-up or a book: its frame, its turn, and the places of its posts.
 pub mod bytes;
 pub mod frame;
 pub mod outline;
 pub mod posts;
-pub mod setup;
-pub mod stage;
 pub mod verdict;

@@ -6,7 +6,6 @@ ghost use Rattle.layout.specs.Posts.{ownChecks};
 use crate::bytes;
 use crate::outline;
 use crate::outline::Outline;
-use crate::setup;
 use crate::verdict::Verdict;
 use crate::verdict::row;
 use amounts::decline;
@@ -20,7 +19,7 @@ pub fn check_posts(o: Outline, closed: bool, count: u8, body: &[u8]) -> Verdict
 {
     let end = bytes::zero_from(body, (count as usize) * POST_SIZE);
     let zeros = row(end, decline::LAYOUT, Verdict::Accepted);
-    let posts = row(setup::is_within(1, 10, count), decline::LAYOUT, zeros);
+    let posts = row(bytes::is_within(1, 10, count), decline::LAYOUT, zeros);
     let long = row(body.len() == 500, decline::LAYOUT, posts);
     let open = row(!closed, decline::CLOSED, long);
     row(outline::may_post(o), decline::OUT_OF_TURN, open)

@@ -7,8 +7,8 @@ use book::block;
 use book::posts::take_post;
 use book::site;
 use book::site::Book;
-use layout::setup::check_setup;
-use layout::stage::check_stage;
+use setup::setup::check_setup;
+use setup::stage::check_stage;
 use post::fields::Post;
 use report::report::report_of;
 

@@ -8,13 +8,14 @@ ghost use Rattle.layout.specs.Verdict.{verdictOf};
 ghost use Rattle.layout.specs.declared.verdict.Verdict.the-variants.{Accepted};
 ghost use Rattle.writer.specs.Tally.{freshTally, isFree, kindChecks, setUpChecks, mayBegin, postAnswer, finished, ended, outlineAfter, setUpOn, postOn, Sound, Counts};
 use amounts::decline;
+use layout::bytes;
 use layout::outline;
 use layout::outline::Outline;
-use layout::setup;
-use layout::stage;
 use layout::verdict::Verdict;
 use layout::verdict::row;
 use post::moves;
+use setup::setup;
+use setup::stage;
 
 // The outline of the set-up blocks that are written, the posts that wait for their block, and the blocks that are written.
 pub struct Tally {
@@ -76,7 +77,7 @@ fn check_kind(o: Outline, kind: u8, count: u8, body: &[u8]) -> Verdict
 fn check_set_up(room: usize, t: Tally, kind: u8, count: u8, body: &[u8]) -> Verdict
     ensures { λ r. ⌜ r ≡ verdictOf (checked (setUpChecks room t kind count (now (body .entry))) (tt {0})) ⌝ }
 {
-    if !setup::is_within(1, 2, kind) {
+    if !bytes::is_within(1, 2, kind) {
         return Verdict::Declined(decline::LAYOUT);
     }
     let o = t.outline;

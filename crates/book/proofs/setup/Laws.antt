@@ -11,11 +11,11 @@ use Rattle.amounts.specs.Class.{isClass}
 use Rattle.amounts.specs.Content.{countedFrom, countedOf}
 use Rattle.amounts.specs.Decline.{taken, check, checked, valueOr, layout}
 use Rattle.layout.specs.Outline.{mayPost}
-use Rattle.layout.specs.Setup.{noRates, materialsIn, stagesIn, classesIn, contentsIn, countedAll, setupChecks, setupOf}
+use Rattle.setup.specs.Setup.{noRates, materialsIn, stagesIn, classesIn, contentsIn, countedAll, setupChecks, setupOf}
 use Rattle.layout.specs.declared.outline.Outline.{Outline}
 use Rattle.layout.proofs.Checked.{passed}
 use Rattle.layout.proofs.Each.{list-keeps}
-use Rattle.layout.proofs.setup.Laws.{within-true}
+use Rattle.layout.proofs.bytes.Laws.{within-true}
 use Rattle.book.specs.Site.{SoundSetup}
 use Rattle.book.proofs.site.Laws.{none-rated}
 

@@ -12,7 +12,7 @@ use Rattle.layout.specs.Frame.{blockOf}
 use Rattle.layout.specs.Outline.{mayPost}
 use Rattle.layout.specs.declared.outline.Outline.{Outline}
 use Rattle.layout.proofs.Checked.{AllPass, passed, pass-both}
-use Rattle.layout.proofs.setup.Laws.{within-true}
+use Rattle.layout.proofs.bytes.Laws.{within-true}
 use Rattle.post.specs.Fields.{postAt}
 use Rattle.post.specs.Kind.{fieldsFit, kindOf}
 use Rattle.post.specs.Moves.{laidOut, floatsFit, wellFormed}

@@ -1,13 +1,17 @@
 -- Numbers in bytes, one law for every width. Assumes nothing.
 use mathlib.Core.Path.{_≡_, refl, sym, ap, _∙_}
+use mathlib.Core.Bool.{true}
 use mathlib.Core.List.{List, [], _∷_}
 use Prim.Native.Nat.{ℕ, zero, suc, _+_, _-_, _*_, _^_, _≤_, _<_, min}
 use native.Mathlib.Decide.{decLt}
 use native.Mathlib.Nat.{zero-add, one-mul, suc-add, mul-zero, mul-assoc, pow-succ'}
 use native.Mathlib.Omega.{arith}
+use lib.Dec.{leb}
+use borrow.Author.Tests.{leb-true}
 use lib.ListN.{length, getD, take, drop, length-take, length-drop, drop-of-length-le, List·getD-eq-default}
 use lib.Seq.{drop-cons, drop-drop, take-all, length-take-le, ext-getD, getD-take}
-use Rattle.layout.specs.Bytes.{le, part}
+use Rattle.layout.specs.Bytes.{le, part, within}
+use Rattle.layout.proofs.Each.{and-true}
 
 le-nil : (n : ℕ) → le n [] ≡ 0
 unfolding le
@@ -68,3 +72,6 @@ module _ (from to end start : ℕ) (s : List ℕ) (e : end ≡ min to (length s)
       getD-take (end - start) (drop start s) i 0 g
       ∙ ap (λ (n : ℕ). getD (drop n s) i 0) same
       ∙ sym (getD-take (to - from) (drop from s) i 0 (omega arith)))
+
+pub within-true : (low high n : ℕ) → within low high n ≡ true → (low ≤ n) × (n ≤ high)
+within-true low high n e = let h = and-true (leb low n) (leb n high) e in (leb-true low n (h .0), leb-true n high (h .1))

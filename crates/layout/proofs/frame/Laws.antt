@@ -10,8 +10,7 @@ use Rattle.amounts.specs.Decline.{taken, checked}
 use Rattle.layout.specs.Bytes.{le}
 use Rattle.layout.specs.Frame.{blockKind, frameChecks}
 use Rattle.layout.proofs.Checked.{passed}
-use Rattle.layout.proofs.bytes.Laws.{le-small}
-use Rattle.layout.proofs.setup.Laws.{within-true}
+use Rattle.layout.proofs.bytes.Laws.{le-small, within-true}
 
 pub record Framed (number : ℕ) (s : List ℕ) : Type 0 where
   pub long : length s ≡ 512

@@ -8,9 +8,8 @@ use borrow.Author.Tests.{eq-eqb}
 use lib.ListN.{length, take, drop, length-append}
 use lib.Seq.{take-at, drop-at, drop-drop}
 use Rattle.amounts.specs.Decline.{taken, checked}
-use Rattle.layout.specs.Bytes.{le, littleEndian}
+use Rattle.layout.specs.Bytes.{le, littleEndian, within}
 use Rattle.layout.specs.Frame.{hasTag, blockKind, countOf, bodyOf, plainSum, weightedSum, sumsOf, frameChecks, headOf, summed, blockOf}
-use Rattle.layout.specs.Setup.{within}
 
 -- two bytes that store a number tell it again, whatever stands behind them
 pub two-told : (n : ℕ) (s : List ℕ) → n < 65536 → le 2 (littleEndian 2 n ++ s) ≡ n
