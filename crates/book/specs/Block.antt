@@ -5,7 +5,7 @@ use mathlib.Core.List.{List}
 use lib.Dec.{eqb}
 use Rattle.amounts.specs.Decline.{Answer, taken, declined, checked, onTaken, notNext}
 use Rattle.layout.specs.Frame.{blockKind, countOf, bodyOf, frameChecks}
-use Rattle.setup.specs.declared.setup.Setup.{Setup}
+use Rattle.plant.specs.declared.setup.Setup.{Setup}
 use Rattle.book.specs.Posts.{postsOn}
 use Rattle.book.specs.Setup.{setUpOn}
 use Rattle.book.specs.Site.{bookWith}

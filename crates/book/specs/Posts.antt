@@ -7,7 +7,7 @@ use Rattle.amounts.specs.Decline as number
 use Rattle.amounts.specs.Decline.{Answer, taken, Check, check, checked, onTaken}
 use Rattle.layout.specs.Outline.{mayPost}
 use Rattle.layout.specs.Posts.{postIn, ownChecks}
-use Rattle.setup.specs.declared.setup.Setup.{Setup}
+use Rattle.plant.specs.declared.setup.Setup.{Setup}
 use Rattle.post.specs.Moves.{moveAt}
 use Rattle.post.specs.declared.moves.Move.{Move}
 use Rattle.book.specs.Entry.{isThere, closes, yearAfter}

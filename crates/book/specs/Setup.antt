@@ -2,8 +2,8 @@
 use Prim.Native.Nat.{ℕ}
 use mathlib.Core.List.{List}
 use Rattle.amounts.specs.Decline.{Answer, checked}
-use Rattle.setup.specs.Setup.{setupChecks, setupOf}
-use Rattle.setup.specs.declared.setup.Setup.{Setup}
+use Rattle.plant.specs.Setup.{setupChecks, setupOf}
+use Rattle.plant.specs.declared.setup.Setup.{Setup}
 
 unfoldable pub setUpOn : Setup → ℕ → List ℕ → Answer Setup
 unfolding checked

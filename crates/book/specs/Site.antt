@@ -6,9 +6,9 @@ use mathlib.Core.List.{List}
 use lib.ListN.{length, getD, replicate}
 use Rattle.layout.specs.Each.{sumTo}
 use Rattle.layout.specs.Outline.{freshOutline, mayPost}
-use Rattle.setup.specs.Setup.{noRates}
-use Rattle.setup.specs.declared.setup.Rates.{Rates}
-use Rattle.setup.specs.declared.setup.Setup.{Setup}
+use Rattle.plant.specs.Setup.{noRates}
+use Rattle.plant.specs.declared.setup.Rates.{Rates}
+use Rattle.plant.specs.declared.setup.Setup.{Setup}
 use Rattle.book.specs.Ledger.{brings, total}
 use Rattle.book.specs.declared.site.Book.{Book}
 use Rattle.book.specs.declared.site.Year.{Year}

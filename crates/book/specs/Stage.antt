@@ -5,8 +5,8 @@ use lib.ListN.{getD, drop, set}
 use Rattle.amounts.specs.Decline.{Answer, checked}
 use Rattle.layout.specs.Each.{putTo}
 use Rattle.layout.specs.Outline.{withDescribed}
-use Rattle.setup.specs.Stage.{sideRow, rateRow, stageChecks}
-use Rattle.setup.specs.declared.setup.Setup.{Setup}
+use Rattle.plant.specs.Stage.{sideRow, rateRow, stageChecks}
+use Rattle.plant.specs.declared.setup.Setup.{Setup}
 
 -- "17 bytes per substance": the sides and rates of n substances in the pairs from base on
 abbrev pub withPairs : Setup → ℕ → List ℕ → ℕ → Setup

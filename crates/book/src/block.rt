@@ -14,7 +14,7 @@ use crate::site::Book;
 use crate::stage;
 use amounts::decline;
 use layout::frame;
-use setup::setup::Setup;
+use plant::setup::Setup;
 use layout::verdict::Verdict;
 
 // A set-up block, by its kind.

@@ -18,7 +18,7 @@ use amounts::decline;
 use layout::outline;
 use layout::outline::Outline;
 use layout::posts::POST_SIZE;
-use setup::setup::Setup;
+use plant::setup::Setup;
 use layout::verdict::Verdict;
 use post::moves;
 use post::moves::Move;

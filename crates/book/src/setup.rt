@@ -2,7 +2,7 @@
 ghost use mathlib.Core.Path.{_≡_};
 ghost use Rattle.book.specs.Setup.{setUpOn};
 ghost use Rattle.book.specs.Steps.{guarded};
-use setup::setup::Setup;
+use plant::setup::Setup;
 use layout::verdict::Verdict;
 
 // What a set-up block answers, and the set-up after it where it is accepted.
@@ -16,12 +16,12 @@ pub(crate) fn set_up(u: Setup, count: u8, body: &[u8]) -> SetupEnd
     ensures { λ r. ⌜ guarded (r .verdict) (r .setup) ≡ setUpOn u count (now (body .entry)) ⌝ }
 {
     let o = u.outline;
-    let verdict = setup::setup::check_setup(o, count, body);
+    let verdict = plant::setup::check_setup(o, count, body);
     if let Verdict::Declined(_) = verdict {
         return SetupEnd { verdict, setup: u };
     }
     SetupEnd {
         verdict: Verdict::Accepted,
-        setup: setup::setup::parse(count, body),
+        setup: plant::setup::parse(count, body),
     }
 }

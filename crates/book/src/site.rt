@@ -2,8 +2,8 @@
 ghost use mathlib.Core.Path.{_≡_};
 ghost use Rattle.book.specs.Site.{freshSetup, freshBook, Sound};
 use layout::outline::Outline;
-use setup::setup::NO_RATES;
-use setup::setup::Setup;
+use plant::setup::NO_RATES;
+use plant::setup::Setup;
 
 // The store in grams by material; the ledger's sums in micrograms, at account * 64 + stage * 8 + substance; what was handled of each
 // substance; the posts accepted; and whether the close is among them.

@@ -7,7 +7,7 @@ ghost use Rattle.book.specs.Stage.{describedOn, withPairs};
 ghost use Rattle.book.specs.Steps.{guarded};
 use crate::setup::SetupEnd;
 use layout::bytes;
-use setup::setup::Setup;
+use plant::setup::Setup;
 use layout::verdict::Verdict;
 
 // The sides and rates of n substances, into the pairs from base on.
@@ -19,7 +19,7 @@ fn pairs_into(u: Setup, base: usize, s: &[u8], n: usize) -> Setup
     let mut i: usize = 0;
     while i < n {
         out.sides[base + i] = bytes::byte_at(s, i * 17);
-        out.rates[base + i] = setup::stage::rates_at(s, i * 17);
+        out.rates[base + i] = plant::stage::rates_at(s, i * 17);
         i += 1;
     }
     out
@@ -31,7 +31,7 @@ pub(crate) fn describe(u: Setup, stage: u8, body: &[u8]) -> SetupEnd
     ensures { λ r. ⌜ guarded (r .verdict) (r .setup) ≡ describedOn u stage (now (body .entry)) ⌝ }
 {
     let o = u.outline;
-    let verdict = setup::stage::check_stage(o, stage, body);
+    let verdict = plant::stage::check_stage(o, stage, body);
     if let Verdict::Declined(_) = verdict {
         return SetupEnd { verdict, setup: u };
     }

@@ -11,7 +11,7 @@ use crate::site::Book;
 use crate::site::Year;
 use amounts::decline::Decline;
 use layout::frame;
-use setup::setup::Setup;
+use plant::setup::Setup;
 use layout::verdict::Verdict;
 
 // Accepted, with as many blocks as the journal has and the book after the last; or why a block was declined, with its place from 0 and a

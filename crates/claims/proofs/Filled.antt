@@ -16,7 +16,7 @@ use Rattle.layout.specs.Frame.{bodyOf, frameChecks, blockOf}
 use Rattle.layout.specs.Outline.{mayPost}
 use Rattle.layout.specs.Posts.{postIn, ownChecks}
 use Rattle.layout.specs.declared.outline.Outline.{Outline}
-use Rattle.setup.specs.declared.setup.Setup.{Setup}
+use Rattle.plant.specs.declared.setup.Setup.{Setup}
 use Rattle.layout.proofs.Checked.{passed}
 use Rattle.layout.proofs.frame.Made.{kind-made, count-made, body-made}
 use Rattle.post.specs.Fields.{postAt}

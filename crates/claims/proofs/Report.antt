@@ -11,8 +11,8 @@ use Rattle.amounts.specs.Decline.{valueOr}
 use Rattle.amounts.specs.Filed.{filedOf}
 use Rattle.amounts.specs.Threshold.{dueOf}
 use Rattle.layout.specs.Each.{sumTo}
-use Rattle.setup.specs.declared.setup.Rates.{Rates}
-use Rattle.setup.specs.declared.setup.Setup.{Setup}
+use Rattle.plant.specs.declared.setup.Rates.{Rates}
+use Rattle.plant.specs.declared.setup.Setup.{Setup}
 use Rattle.layout.proofs.Each.{sum-same}
 use Rattle.post.specs.Account.{held, shipped, offSite, landfill, soil, consumed, gas, water, vapour}
 use Rattle.post.specs.declared.moves.Move.{Move}

@@ -14,10 +14,10 @@ use Rattle.amounts.proofs.decline.Laws.{was-taken}
 use Rattle.layout.specs.Frame.{blockKind, countOf, bodyOf, frameChecks, blockOf}
 use Rattle.layout.specs.Outline.{mayPost, freshOutline}
 use Rattle.layout.specs.Posts.{postIn}
-use Rattle.setup.specs.Setup.{setupOf}
+use Rattle.plant.specs.Setup.{setupOf}
 use Rattle.layout.specs.Bytes.{within}
 use Rattle.layout.specs.declared.outline.Outline.{Outline}
-use Rattle.setup.specs.declared.setup.Setup.{Setup}
+use Rattle.plant.specs.declared.setup.Setup.{Setup}
 use Rattle.layout.proofs.frame.Laws.{framed}
 use Rattle.layout.proofs.frame.Made.{kind-made}
 use Rattle.layout.proofs.bytes.Laws.{within-true}

@@ -10,11 +10,11 @@ use lib.Dec.{eqb}
 use lib.ListN.{length, getD, drop, set}
 use lib.Seq.{getD-set-same, getD-set-other}
 use Rattle.layout.specs.Each.{putTo}
-use Rattle.setup.specs.Setup.{noRates, numbersIn, classesIn, contentsIn, countedAll, setupOf}
-use Rattle.setup.specs.Stage.{sideRow, rateRow}
-use Rattle.setup.specs.declared.setup.Setup.{Setup}
+use Rattle.plant.specs.Setup.{noRates, numbersIn, classesIn, contentsIn, countedAll, setupOf}
+use Rattle.plant.specs.Stage.{sideRow, rateRow}
+use Rattle.plant.specs.declared.setup.Setup.{Setup}
 use Rattle.layout.proofs.Each.{put-at, put-other}
-use Rattle.setup.proofs.stage.Laws as stage-laws
+use Rattle.plant.proofs.stage.Laws as stage-laws
 use Rattle.book.specs.Site.{SoundSetup}
 use Rattle.book.specs.Stage.{withStage}
 use Rattle.book.proofs.site.Laws.{same-at}

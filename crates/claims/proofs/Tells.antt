@@ -13,9 +13,9 @@ use Rattle.layout.specs.Each.{listTo}
 use Rattle.layout.specs.Frame.{blockKind, countOf, bodyOf}
 use Rattle.layout.specs.Outline.{mayPost}
 use Rattle.layout.specs.Posts.{postIn}
-use Rattle.setup.specs.Setup.{setupOf}
+use Rattle.plant.specs.Setup.{setupOf}
 use Rattle.layout.specs.declared.outline.Outline.{Outline}
-use Rattle.setup.specs.declared.setup.Setup.{Setup}
+use Rattle.plant.specs.declared.setup.Setup.{Setup}
 use Rattle.layout.proofs.Each.{and-true}
 use Rattle.post.specs.Moves.{said}
 use Rattle.post.specs.declared.moves.Move.{Move}

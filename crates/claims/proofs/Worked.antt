@@ -8,7 +8,7 @@ use Rattle.amounts.specs.Content.{countedOf}
 use Rattle.amounts.specs.Decline.{taken, declined, valueOr, short}
 use Rattle.layout.specs.Bytes.{le, padded}
 use Rattle.layout.specs.Each.{sumTo, allTo, listTo, putTo}
-use Rattle.setup.specs.Stage.{ratesAt}
+use Rattle.plant.specs.Stage.{ratesAt}
 use Rattle.post.specs.Fields.{postAt}
 use Rattle.post.specs.Moves.{measured}
 use Rattle.book.specs.Block.{blockOn}

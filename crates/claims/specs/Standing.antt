@@ -7,7 +7,7 @@ use Rattle.amounts.specs.Decline.{Answer, isTaken, valueOr}
 use Rattle.layout.specs.Each.{listTo}
 use Rattle.layout.specs.Frame.{blockKind, countOf, bodyOf}
 use Rattle.layout.specs.Posts.{postIn}
-use Rattle.setup.specs.Setup.{numbersIn, classesIn, contentsIn, countedAll}
+use Rattle.plant.specs.Setup.{numbersIn, classesIn, contentsIn, countedAll}
 use Rattle.post.specs.Moves.{said}
 use Rattle.post.specs.declared.moves.Move.{Move}
 use Rattle.book.specs.Block.{blockOn}

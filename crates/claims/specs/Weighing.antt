@@ -12,8 +12,8 @@ use Rattle.amounts.specs.Treatment.{partsOf}
 use Rattle.amounts.specs.declared.treatment.Parts.{Parts}
 use Rattle.layout.specs.Each.{sumTo}
 use Rattle.layout.specs.Frame.{countOf, bodyOf}
-use Rattle.setup.specs.Stage.{sideRow, rateRow}
-use Rattle.setup.specs.declared.setup.Rates.{Rates}
+use Rattle.plant.specs.Stage.{sideRow, rateRow}
+use Rattle.plant.specs.declared.setup.Rates.{Rates}
 use Rattle.post.specs.Account.{held, shipped, offSite, landfill, soil, consumed, gas, water, vapour}
 use Rattle.post.specs.declared.moves.Move.{Move}
 use Rattle.post.specs.declared.moves.Move.the-variants.{Received, Issued, Brought, Gone, Close}

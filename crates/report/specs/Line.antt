@@ -7,9 +7,9 @@ use lib.ListN.{getD}
 use Rattle.amounts.specs.Treatment.{partsOf}
 use Rattle.amounts.specs.declared.treatment.Parts.{Parts}
 use Rattle.layout.specs.Each.{sumTo}
-use Rattle.setup.specs.Setup.{noRates}
-use Rattle.setup.specs.declared.setup.Rates.{Rates}
-use Rattle.setup.specs.declared.setup.Setup.{Setup}
+use Rattle.plant.specs.Setup.{noRates}
+use Rattle.plant.specs.declared.setup.Rates.{Rates}
+use Rattle.plant.specs.declared.setup.Setup.{Setup}
 use Rattle.post.specs.Account.{held, shipped, offSite, landfill, soil, consumed, gas, water, vapour}
 use Rattle.book.specs.Ledger.{cell}
 use Rattle.report.specs.declared.line.Cells.{Cells}

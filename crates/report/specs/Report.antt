@@ -7,7 +7,7 @@ use lib.ListN.{getD}
 use Rattle.amounts.specs.Decline.{Answer, taken, declined, check, checked, valueOr, noSubstance}
 use Rattle.amounts.specs.Filed.{filedOf}
 use Rattle.amounts.specs.Threshold.{dueOf}
-use Rattle.setup.specs.declared.setup.Setup.{Setup}
+use Rattle.plant.specs.declared.setup.Setup.{Setup}
 use Rattle.book.specs.Site.{stored}
 use Rattle.book.specs.declared.site.Book.{Book}
 use Rattle.book.specs.declared.site.Year.{Year}

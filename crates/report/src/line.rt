@@ -9,7 +9,7 @@ ghost use Rattle.report.specs.Steps.{addHeadings, addLines};
 use amounts::treatment;
 use amounts::treatment::Parts;
 use amounts::treatment::Split;
-use setup::setup::Setup;
+use plant::setup::Setup;
 use post::account;
 
 // In micrograms.

@@ -19,7 +19,7 @@ use amounts::threshold::Due;
 use book::site;
 use book::site::Book;
 use book::site::Year;
-use setup::setup::Setup;
+use plant::setup::Setup;
 
 pub enum Filing {
     Figures(Headings),

@@ -2,17 +2,17 @@
 mod contents;
 mod figures;
 mod line;
-mod losses;
 mod readings;
 mod splits;
 mod thresholds;
+mod vapour;
 
 fn main() {
-    losses::worked();
-    losses::order_and_first_ends();
-    losses::other_ends();
-    losses::odd_floats();
-    losses::declines();
+    vapour::worked();
+    vapour::order_and_first_ends();
+    vapour::other_ends();
+    vapour::odd_floats();
+    vapour::declines();
     figures::show_all();
     splits::show_all();
     thresholds::show_all();

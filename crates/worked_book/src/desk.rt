@@ -7,8 +7,8 @@ use book::block;
 use book::posts::take_post;
 use book::site;
 use book::site::Book;
-use setup::setup::check_setup;
-use setup::stage::check_stage;
+use plant::setup::check_setup;
+use plant::stage::check_stage;
 use post::fields::Post;
 use report::report::report_of;
 

@@ -6,9 +6,9 @@ use mathlib.Core.List.{List, [], _∷_, _++_}
 use lib.Dec.{eqb, leb, ltb}
 use Rattle.amounts.specs.Decline.{Answer, taken, Check, check, checked, onTaken, valueOr, outOfTurn, layout, noRoom}
 use Rattle.layout.specs.Outline.{freshOutline, withDescribed, mayPost}
-use Rattle.setup.specs.Setup.{outlineOf, setupChecks}
+use Rattle.plant.specs.Setup.{outlineOf, setupChecks}
 use Rattle.layout.specs.Bytes.{within}
-use Rattle.setup.specs.Stage.{stageChecks}
+use Rattle.plant.specs.Stage.{stageChecks}
 use Rattle.layout.specs.Verdict.{verdictOf}
 use Rattle.layout.specs.declared.outline.Outline.{Outline}
 use Rattle.layout.specs.declared.verdict.Verdict.{Verdict}

@@ -14,8 +14,8 @@ use layout::outline::Outline;
 use layout::verdict::Verdict;
 use layout::verdict::row;
 use post::moves;
-use setup::setup;
-use setup::stage;
+use plant::setup;
+use plant::stage;
 
 // The outline of the set-up blocks that are written, the posts that wait for their block, and the blocks that are written.
 pub struct Tally {

@@ -11,8 +11,8 @@ use Rattle.amounts.specs.Decline.{taken, declined, checked}
 use Rattle.amounts.proofs.decline.Laws.{was-taken}
 use Rattle.layout.specs.Frame.{blockKind, countOf, bodyOf, frameChecks}
 use Rattle.layout.specs.Posts.{postIn}
-use Rattle.setup.specs.Setup.{setupOf}
-use Rattle.setup.specs.declared.setup.Setup.{Setup}
+use Rattle.plant.specs.Setup.{setupOf}
+use Rattle.plant.specs.declared.setup.Setup.{Setup}
 use Rattle.layout.proofs.frame.Laws.{Framed, framed, number-small}
 use Rattle.layout.proofs.posts.Laws.{Owned}
 use Rattle.book.specs.Answer.{outcome}

@@ -12,7 +12,7 @@ use lib.ListN.{length, getD, set, length-set}
 use lib.Seq.{getD-set-same, getD-set-other}
 use Rattle.layout.specs.Outline.{mayPost}
 use Rattle.layout.specs.declared.outline.Outline.{Outline}
-use Rattle.setup.specs.declared.setup.Setup.{Setup}
+use Rattle.plant.specs.declared.setup.Setup.{Setup}
 use Rattle.layout.proofs.Each.{sum-point}
 use Rattle.post.specs.Account.{held}
 use Rattle.post.specs.Moves.{Fits}

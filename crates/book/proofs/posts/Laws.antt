@@ -17,7 +17,7 @@ use Rattle.layout.specs.Outline.{mayPost}
 use Rattle.layout.specs.Posts.{partOf, postIn, ownChecks}
 use Rattle.layout.specs.Verdict.{verdictOf}
 use Rattle.layout.specs.declared.outline.Outline.{Outline}
-use Rattle.setup.specs.declared.setup.Setup.{Setup}
+use Rattle.plant.specs.declared.setup.Setup.{Setup}
 use Rattle.layout.specs.declared.verdict.Verdict.{Verdict}
 use Rattle.layout.specs.declared.verdict.Verdict.the-variants.{Accepted, Declined}
 use Rattle.layout.proofs.Checked.{passed}

@@ -11,7 +11,7 @@ use Rattle.amounts.specs.Class.{isClass}
 use Rattle.amounts.specs.Content.{countedFrom, countedOf}
 use Rattle.amounts.specs.Decline.{taken, check, checked, valueOr, layout}
 use Rattle.layout.specs.Outline.{mayPost}
-use Rattle.setup.specs.Setup.{noRates, materialsIn, stagesIn, classesIn, contentsIn, countedAll, setupChecks, setupOf}
+use Rattle.plant.specs.Setup.{noRates, materialsIn, stagesIn, classesIn, contentsIn, countedAll, setupChecks, setupOf}
 use Rattle.layout.specs.declared.outline.Outline.{Outline}
 use Rattle.layout.proofs.Checked.{passed}
 use Rattle.layout.proofs.Each.{list-keeps}

@@ -6,8 +6,8 @@ use native.Mathlib.Nat.{zero-mul}
 use native.Mathlib.Omega.{arith}
 use lib.ListN.{getD, replicate, length-replicate}
 use Rattle.layout.specs.Each.{sumTo}
-use Rattle.setup.specs.Setup.{noRates}
-use Rattle.setup.specs.declared.setup.Setup.{Setup}
+use Rattle.plant.specs.Setup.{noRates}
+use Rattle.plant.specs.declared.setup.Setup.{Setup}
 use Rattle.layout.proofs.Each.{sum-none}
 use Rattle.book.specs.Ledger.{total, cellOf}
 use Rattle.book.specs.Site.{Sound, SoundYear, Rated, freshBook, storedTo}

@@ -10,12 +10,12 @@ use borrow.Author.Tests.{eqb-true, ne-eqb, leb-true, ltb-true}
 use Rattle.amounts.specs.Content.{isPpm}
 use Rattle.amounts.specs.Decline.{taken, checked}
 use Rattle.layout.specs.Outline.{mayPost}
-use Rattle.setup.specs.Setup.{noRates}
+use Rattle.plant.specs.Setup.{noRates}
 use Rattle.layout.specs.Bytes.{within}
-use Rattle.setup.specs.Stage.{sideRow, rateRow, ratesFit, allRatesFit, stageChecks}
+use Rattle.plant.specs.Stage.{sideRow, rateRow, ratesFit, allRatesFit, stageChecks}
 use Rattle.layout.specs.declared.outline.Outline.{Outline}
-use Rattle.setup.specs.declared.setup.Rates.{Rates}
-use Rattle.setup.specs.declared.setup.Setup.{Setup}
+use Rattle.plant.specs.declared.setup.Rates.{Rates}
+use Rattle.plant.specs.declared.setup.Setup.{Setup}
 use Rattle.layout.proofs.Checked.{passed}
 use Rattle.layout.proofs.Each.{and-true, all-at, length-put, put-keeps, put-again}
 use Rattle.book.specs.Site.{SoundSetup, Rated}

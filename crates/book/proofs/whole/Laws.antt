@@ -12,7 +12,7 @@ use lib.Seq.{take-all, drop-drop}
 use Rattle.amounts.specs.Decline.{Answer, taken, declined, checked}
 use Rattle.amounts.specs.declared.decline.Decline.{Decline}
 use Rattle.layout.specs.Frame.{blockKind, countOf, bodyOf, frameChecks}
-use Rattle.setup.specs.declared.setup.Setup.{Setup}
+use Rattle.plant.specs.declared.setup.Setup.{Setup}
 use Rattle.layout.specs.declared.verdict.Verdict.{Verdict}
 use Rattle.layout.specs.declared.verdict.Verdict.the-variants.{Accepted, Declined}
 use Rattle.book.specs.Block.{setupBy, onSetup, onYear, blockOn}

@@ -11,8 +11,8 @@ use Rattle.amounts.specs.Treatment.{partsOf}
 use Rattle.amounts.specs.declared.treatment.Parts.{Parts}
 use Rattle.amounts.proofs.treatment.Laws.{conserved}
 use Rattle.layout.specs.Each.{sumTo}
-use Rattle.setup.specs.declared.setup.Rates.{Rates}
-use Rattle.setup.specs.declared.setup.Setup.{Setup}
+use Rattle.plant.specs.declared.setup.Rates.{Rates}
+use Rattle.plant.specs.declared.setup.Setup.{Setup}
 use Rattle.layout.proofs.Each.{sum-again, sum-mono}
 use Rattle.book.specs.Ledger.{total}
 use Rattle.book.specs.Site.{Rated, SoundSetup}

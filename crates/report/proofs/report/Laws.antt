@@ -8,7 +8,7 @@ use lib.ListN.{getD}
 use Rattle.amounts.specs.Decline.{taken, declined}
 use Rattle.amounts.specs.Filed.{stepOf, filedOf}
 use Rattle.amounts.proofs.filed.Laws.{filed-within}
-use Rattle.setup.specs.declared.setup.Setup.{Setup}
+use Rattle.plant.specs.declared.setup.Setup.{Setup}
 use Rattle.book.specs.Ledger.{total}
 use Rattle.book.specs.Site.{stored, inYear, Sound, SoundSetup, SoundYear}
 use Rattle.book.specs.declared.site.Book.{Book}

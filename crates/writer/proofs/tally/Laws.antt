@@ -13,8 +13,8 @@ use Rattle.layout.proofs.Checked.{AllPass, passed, pass-both, pass-taken}
 use Rattle.layout.proofs.Each.{and-true}
 use Rattle.layout.proofs.verdict.Laws.{accepts, declines}
 use Rattle.layout.specs.Outline.{mayPost, maySetUp, mayDescribe}
-use Rattle.setup.specs.Setup.{setupChecks}
-use Rattle.setup.specs.Stage.{stageChecks}
+use Rattle.plant.specs.Setup.{setupChecks}
+use Rattle.plant.specs.Stage.{stageChecks}
 use Rattle.layout.specs.Verdict.{verdictOf}
 use Rattle.layout.specs.declared.outline.Outline.{Outline}
 use Rattle.layout.specs.declared.verdict.Verdict.the-variants.{Accepted, Declined}

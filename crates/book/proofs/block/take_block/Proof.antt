@@ -5,7 +5,7 @@ use denote.Ref.{now}
 use lib.ListN.{getD}
 use Rattle.amounts.specs.Decline.{Answer, taken, checked}
 use Rattle.layout.specs.Frame.{frameChecks}
-use Rattle.setup.specs.declared.setup.Setup.{Setup}
+use Rattle.plant.specs.declared.setup.Setup.{Setup}
 use Rattle.layout.proofs.frame.Laws.{Framed, framed, number-small}
 use Rattle.book.specs.Answer.{outcome}
 use Rattle.book.specs.Block.{onSetup, blockOn}

@@ -1,7 +1,7 @@
 use mathlib.Core.Path.{sym, ap, _∙_}
 use denote.Ref.{now}
 use Rattle.amounts.specs.Decline.{taken}
-use Rattle.setup.specs.Setup.{setupChecks, setupOf}
+use Rattle.plant.specs.Setup.{setupChecks, setupOf}
 use Rattle.book.specs.Setup.{setUpOn}
 use Rattle.book.proofs.answer.Laws.{guard-declined, table-accepted}
 use borrow.Author.Needs.{needs}

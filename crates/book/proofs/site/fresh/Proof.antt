@@ -1,5 +1,5 @@
 use mathlib.Core.Path.{sym, ap, subst}
-use Rattle.setup.specs.declared.setup.Setup.{Setup}
+use Rattle.plant.specs.declared.setup.Setup.{Setup}
 use Rattle.book.specs.Site.{Sound, bookWith, freshYear}
 use Rattle.book.specs.declared.site.Book.{Book}
 use Rattle.book.proofs.site.Laws.{sound-fresh}

@@ -5,8 +5,8 @@ use native.Mathlib.Omega.{arith}
 use denote.Ref.{now}
 use lib.ListN.{length-take, length-drop}
 use Rattle.amounts.specs.Decline.{taken, checked}
-use Rattle.setup.specs.Stage.{stageChecks}
-use Rattle.setup.specs.declared.setup.Setup.{Setup}
+use Rattle.plant.specs.Stage.{stageChecks}
+use Rattle.plant.specs.declared.setup.Setup.{Setup}
 use Rattle.layout.proofs.bytes.Laws.{tail-is}
 use Rattle.book.specs.Stage.{withPairs, staged, withStage, describedOn}
 use Rattle.book.proofs.answer.Laws.{guard-declined, table-accepted}

@@ -7,7 +7,7 @@ use denote.Ref.{now}
 use lib.ListN.{length, getD, take, drop}
 use Rattle.amounts.specs.Decline.{taken, checked}
 use Rattle.layout.specs.Frame.{frameChecks}
-use Rattle.setup.specs.declared.setup.Setup.{Setup}
+use Rattle.plant.specs.declared.setup.Setup.{Setup}
 use Rattle.layout.proofs.frame.Laws.{Framed, framed, number-small}
 use Rattle.book.specs.Site.{Sound, bookWith, freshYear}
 use Rattle.book.specs.Steps.{yearWith}

@@ -1,0 +1,75 @@
+use mathlib.Core.Path.{ap, _∙_}
+use Rattle.layout.specs.Bytes.{within}
+use Rattle.plant.specs.Stage.{allRatesFit}
+use Rattle.layout.proofs.verdict.Laws.{row-is, through}
+use borrow.Author.Needs.{needs}
+use Rattle.plant.proofs.stage.checked_body.Statement.{statement}
+use Rattle.plant.proofs.stage.checked_body.Tie as tie
+
+mul-zero-from : tie.Need-mul-zero-from
+mul-zero-from c = search needs
+
+add-zero-from : tie.Need-add-zero-from
+add-zero-from c = search needs
+
+zero-from-requires : tie.Need-zero-from-requires
+zero-from-requires c κs = search needs
+
+row-requires : tie.Need-row-requires
+row-requires c κs = search needs
+
+tail-requires : tie.Need-tail-requires
+tail-requires c κs = search needs
+
+all-rates-fit-requires : tie.Need-all-rates-fit-requires
+all-rates-fit-requires c κs = search needs
+
+row-requires-2 : tie.Need-row-requires-2
+row-requires-2 c κs = search needs
+
+byte-at-requires : tie.Need-byte-at-requires
+byte-at-requires c κs = search needs
+
+is-within-requires : tie.Need-is-within-requires
+is-within-requires c κs = search needs
+
+row-requires-3 : tie.Need-row-requires-3
+row-requires-3 c κs = search needs
+
+byte-at-requires-2 : tie.Need-byte-at-requires-2
+byte-at-requires-2 c κs = search needs
+
+is-within-requires-2 : tie.Need-is-within-requires-2
+is-within-requires-2 c κs = search needs
+
+row-requires-4 : tie.Need-row-requires-4
+row-requires-4 c κs = search needs
+
+returns : tie.Need-returns
+returns c =
+    let residue = c .before .before .before in
+    let rates = residue .before .before .before in
+    let zeros = rates .before .before .before in
+    row-is _ _ _ _ (c .row4 .ensures) (c .before .is-within2 .ensures ∙ ap (within 1 2) (c .before .before .byte-at2 .ensures))
+    (row-is _ _ _ _ (residue .row3 .ensures) (residue .before .is-within .ensures ∙ ap (within 1 2) (residue .before .before .byte-at .ensures))
+    (row-is _ _ _ _ (rates .row2 .ensures) (rates .before .all-rates-fit .ensures ∙ ap (allRatesFit _) (rates .before .before .tail .ensures))
+    (row-is _ _ _ _ (zeros .row .ensures) (zeros .before .zero-from .ensures) (through (tt {0})))))
+
+pub checked-body-spec : {M : Type 1} → statement M
+checked-body-spec =
+    tie.close
+    (tie.spec
+    mul-zero-from
+    add-zero-from
+    zero-from-requires
+    row-requires
+    tail-requires
+    all-rates-fit-requires
+    row-requires-2
+    byte-at-requires
+    is-within-requires
+    row-requires-3
+    byte-at-requires-2
+    is-within-requires-2
+    row-requires-4
+    returns)
