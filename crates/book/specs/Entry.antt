@@ -1,4 +1,4 @@
--- What a move does to a year (document 01, "Posts", "Treatment and report", and decline 11), by its cases.
+-- What a move does to a year (document 01, "Posts", "Treatment and report", and decline 11; document 02, (b)), by its cases.
 use Prim.Native.Nat.{ℕ, _+_, _-_}
 use mathlib.Core.Bool.{Bool, true, false, cond}
 use mathlib.Core.List.{List}
@@ -28,7 +28,7 @@ storeAfter store (Gone account stage s n) = store
 storeAfter store Close = store
 
 -- "the stage's holding of each substance grows by g times counted content"; "The holding grows"; "The holding falls by g times content, which is added under that
--- name", "by the loss, which goes to air untreated"; "Each holding moves to gas or waste water, by that pair's side"
+-- name", "by the loss, which goes to air untreated"; found "goes to off site in the same step"; "Each holding moves to gas or waste water, by that pair's side"
 abbrev pub sumsAfter : List ℕ → List ℕ → List ℕ → Move → List ℕ
 sumsAfter counted sides sums (Received m g) = sums
 sumsAfter counted sides sums (Issued m stage g) = raised (cellOf held stage) (brings counted m g) sums 8
@@ -36,7 +36,7 @@ sumsAfter counted sides sums (Brought account stage s n) = added sums (cellOf ac
 sumsAfter counted sides sums (Gone account stage s n) = moved sums (cellOf held stage s) (cellOf account stage s) n
 sumsAfter counted sides sums Close = settled sums sides 64
 
--- "Handled is issued plus formed"
+-- "Handled is issued plus formed", and found "counts as handled"
 abbrev pub handledAfter : List ℕ → List ℕ → Move → List ℕ
 handledAfter counted handled (Received m g) = handled
 handledAfter counted handled (Issued m stage g) = raised (λ s. s) (brings counted m g) handled 8
@@ -63,7 +63,8 @@ yearAfter u y m =
       closed = closes m;
     }
 
--- "Entered is g times counted content for each opening and bought post, and the quantity of each formed post of the substance": what comes from outside
+-- "Entered is g times counted content for each opening and bought post, and the quantity of each formed post of the substance"; "The entering side of the sum gains the found
+-- amounts": what comes from outside
 abbrev pub enters : List ℕ → ℕ → Move → ℕ
 enters counted s (Received m g) = brings counted m g s
 enters counted s (Issued m stage g) = 0
@@ -71,7 +72,7 @@ enters counted s (Brought account stage t n) = cond (eqb t s) n 0
 enters counted s (Gone account stage t n) = 0
 enters counted s Close = 0
 
--- "Handled is g times counted content for each issued post, and the same formed quantities"
+-- "Handled is g times counted content for each issued post, and the same formed quantities", and the same found amounts
 abbrev pub handles : List ℕ → ℕ → Move → ℕ
 handles counted s (Received m g) = 0
 handles counted s (Issued m stage g) = brings counted m g s

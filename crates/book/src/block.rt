@@ -14,8 +14,8 @@ use crate::site::Book;
 use crate::stage;
 use amounts::decline;
 use layout::frame;
-use plant::setup::Setup;
 use layout::verdict::Verdict;
+use plant::setup::Setup;
 
 // A set-up block, by its kind.
 pub(crate) fn set_up_by(u: Setup, kind: u8, count: u8, body: &[u8]) -> SetupEnd

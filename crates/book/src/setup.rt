@@ -2,8 +2,8 @@
 ghost use mathlib.Core.Path.{_≡_};
 ghost use Rattle.book.specs.Setup.{setUpOn};
 ghost use Rattle.book.specs.Steps.{guarded};
-use plant::setup::Setup;
 use layout::verdict::Verdict;
+use plant::setup::Setup;
 
 // What a set-up block answers, and the set-up after it where it is accepted.
 pub struct SetupEnd {

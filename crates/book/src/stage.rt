@@ -7,8 +7,8 @@ ghost use Rattle.book.specs.Stage.{describedOn, withPairs};
 ghost use Rattle.book.specs.Steps.{guarded};
 use crate::setup::SetupEnd;
 use layout::bytes;
-use plant::setup::Setup;
 use layout::verdict::Verdict;
+use plant::setup::Setup;
 
 // The sides and rates of n substances, into the pairs from base on.
 fn pairs_into(u: Setup, base: usize, s: &[u8], n: usize) -> Setup

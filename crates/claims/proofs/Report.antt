@@ -1,10 +1,11 @@
 -- What a book's report shows is what stands. Assumes nothing.
 use mathlib.Core.Path.{_≡_, refl, sym, ap, ap₂, _∙_}
-use mathlib.Core.Bool.{Bool, true, false, cond}
+use mathlib.Core.Bool.{Bool, true, false, true≢false, _&&_, cond}
 use mathlib.Core.List.{List}
 use Prim.Native.Nat.{ℕ, _+_, _-_, _*_, _≤_, _<_}
+use native.Mathlib.Decide.{ℕ-discrete}
 use native.Mathlib.Omega.{arith}
-use borrow.Author.Tests.{ne-eqb}
+use borrow.Author.Tests.{eq-eqb, ne-eqb}
 use lib.Dec.{eqb}
 use lib.ListN.{getD}
 use Rattle.amounts.specs.Decline.{valueOr}
@@ -17,6 +18,7 @@ use Rattle.layout.proofs.Each.{sum-same}
 use Rattle.post.specs.Account.{held, shipped, offSite, landfill, soil, consumed, gas, water, vapour}
 use Rattle.post.specs.declared.moves.Move.{Move}
 use Rattle.post.specs.declared.moves.Move.the-variants.{Received, Issued, Brought, Gone, Close}
+use Rattle.post.proofs.moves.Named.{comesTo, Named}
 use Rattle.book.specs.Entry.{enters, handles}
 use Rattle.book.specs.Ledger.{cell, closesTo}
 use Rattle.book.specs.Site.{Sound, bookWith}
@@ -29,11 +31,11 @@ use Rattle.report.proofs.report.Laws.{report-handled, report-entered, headings-
 use Rattle.claims.specs.Demand as demand
 use Rattle.claims.specs.Demand.{Balanced}
 use Rattle.claims.specs.Standing.{Standing, countedIn, movesOf}
-use Rattle.claims.specs.Weighing.{waterTo, residueTo, sideFor, ratesFor, receives, issues, brought, received, issued, store, formed, handledBy, came}
+use Rattle.claims.specs.Weighing.{waterTo, residueTo, sideFor, ratesFor, receives, issues, brought, received, issued, store, formed, found, handledBy, came}
 use Rattle.claims.specs.Weighing.{remains, under, anyCloses, isClosed, heldAt, toGas, toWater, gasTotal, waterTotal, lineOf, reportBy, Weighed}
 use Rattle.claims.proofs.Setting.{SetBy}
 use Rattle.claims.proofs.State.{cameSum, leftSum, underSum, State, still-open, shut}
-use Rattle.claims.proofs.Sums.{over-two}
+use Rattle.claims.proofs.Sums.{Each, over-three}
 use Rattle.claims.proofs.Tells.{Setting, unset, is-set, Tells}
 
 -- ---- in balance
@@ -59,26 +61,38 @@ balanced w b s h few =
 
 -- ---- what came in
 
--- a move is received, issued or brought from outside, or neither enters nor is handled
-enters-is : (counted : List ℕ) (s : ℕ) (m : Move) → enters counted s m ≡ receives counted s m + brought s m
-enters-is counted s (Received m g) = omega arith
-enters-is counted s (Issued m k g) = omega arith
-enters-is counted s (Brought a k t n) = omega arith
-enters-is counted s (Gone a k t n) = omega arith
-enters-is counted s Close = omega arith
+-- what is brought comes to a holding or to off site
+comes-to : (a t s n : ℕ) → comesTo a ≡ true → cond (eqb t s) n 0 ≡ cond (eqb a held && eqb t s) n 0 + cond (eqb a offSite && eqb t s) n 0
+comes-to a t s n e = go (ℕ-discrete a held) (ℕ-discrete a offSite)
+  where
+    go : Dec (a ≡ held) → Dec (a ≡ offSite) → cond (eqb t s) n 0 ≡ cond (eqb a held && eqb t s) n 0 + cond (eqb a offSite && eqb t s) n 0
+    go (yes p) f = rw (eq-eqb a held p, ne-eqb a offSite (λ q. omega arith)) (omega arith)
+    go (no d) (yes q) = rw (ne-eqb a held d, eq-eqb a offSite q) (omega arith)
+    go (no d) (no f) = absurd (true≢false (sym e ∙ rw (ne-eqb a held d, ne-eqb a offSite f)))
 
-handles-is : (counted : List ℕ) (s : ℕ) (m : Move) → handles counted s m ≡ issues counted s m + brought s m
-handles-is counted s (Received m g) = omega arith
-handles-is counted s (Issued m k g) = omega arith
-handles-is counted s (Brought a k t n) = omega arith
-handles-is counted s (Gone a k t n) = omega arith
-handles-is counted s Close = omega arith
+-- a move is received, issued, formed or found, or neither enters nor is handled
+enters-is : (counted : List ℕ) (s : ℕ) (m : Move) → Named m → enters counted s m ≡ receives counted s m + brought held s m + brought offSite s m
+enters-is counted s (Received m g) e = omega arith
+enters-is counted s (Issued m k g) e = omega arith
+enters-is counted s (Brought a k t n) e = omega (arith, comes-to a t s n e)
+enters-is counted s (Gone a k t n) e = omega arith
+enters-is counted s Close e = omega arith
 
-handled-posts : (w : Standing) (s : ℕ) → demand.handled w s ≡ handledBy w s
-handled-posts w s = over-two (handles (countedIn w) s) (issues (countedIn w) s) (brought s) (movesOf w) (handles-is (countedIn w) s)
+handles-is : (counted : List ℕ) (s : ℕ) (m : Move) → Named m → handles counted s m ≡ issues counted s m + brought held s m + brought offSite s m
+handles-is counted s (Received m g) e = omega arith
+handles-is counted s (Issued m k g) e = omega arith
+handles-is counted s (Brought a k t n) e = omega (arith, comes-to a t s n e)
+handles-is counted s (Gone a k t n) e = omega arith
+handles-is counted s Close e = omega arith
 
-entered-posts : (w : Standing) (s : ℕ) → demand.entered w s ≡ received w s + formed w s
-entered-posts w s = over-two (enters (countedIn w) s) (receives (countedIn w) s) (brought s) (movesOf w) (enters-is (countedIn w) s)
+module _ (w : Standing) (named : Each Named (movesOf w)) (s : ℕ) where
+  handled-posts : demand.handled w s ≡ handledBy w s
+  handled-posts =
+      over-three Named (handles (countedIn w) s) (issues (countedIn w) s) (brought held s) (brought offSite s) (movesOf w) named (handles-is (countedIn w) s)
+
+  entered-posts : demand.entered w s ≡ received w s + formed w s + found w s
+  entered-posts =
+      over-three Named (enters (countedIn w) s) (receives (countedIn w) s) (brought held s) (brought offSite s) (movesOf w) named (enters-is (countedIn w) s)
 
 -- ---- a stage's sums
 
@@ -156,9 +170,9 @@ stageBy w s k =
     (ratesFor w k s) (waterTo w k) (residueTo w k)
 
 -- entered less handled is what came less what was issued
-weighed-stock : (entered handled store weight came issued formed : ℕ) → entered ≡ store + weight → handled ≡ weight
-    → handled ≡ issued + formed → entered ≡ came + formed → store + issued ≡ came
-weighed-stock entered handled store weight came issued formed p q r s = omega arith
+weighed-stock : (entered handled store weight came issued formed found : ℕ) → entered ≡ store + weight → handled ≡ weight
+    → handled ≡ issued + formed + found → entered ≡ came + formed + found → store + issued ≡ came
+weighed-stock entered handled store weight came issued formed found p q r s = omega arith
 
 difference : (store issued came : ℕ) → store + issued ≡ came → store ≡ came - issued
 difference store issued came e = omega arith
@@ -242,12 +256,12 @@ module _ (w : Standing) (b : Book) (h : Tells w b) (up : SetBy (w .first) (w .st
       )
 
   out-is : reportAt b s .handled ≡ handledBy w s
-  out-is = balanced w b s h few .shown ∙ handled-posts w s
+  out-is = balanced w b s h few .shown ∙ handled-posts w (h .named) s
 
   stock-is : reportAt b s .store + issued w s ≡ received w s
   stock-is =
       let z = balanced w b s h few in
-      weighed-stock _ _ _ _ _ _ _ (z .weighed-in) (z .weighed-out) (handled-posts w s) (entered-posts w s)
+      weighed-stock _ _ _ _ _ _ _ _ (z .weighed-in) (z .weighed-out) (handled-posts w (h .named) s) (entered-posts w (h .named) s)
 
   report-told : reportAt b s ≡ reportBy w s
   report-told =

@@ -16,11 +16,21 @@ unfolding sumOver
 sum-last f [] m = omega arith
 sum-last f (x ∷ ms) m = omega (arith, sum-last f ms m)
 
+-- each move of a list
+abbrev pub Each : (Move → Type 0) → List Move → Type 0
+Each P [] = Unit
+Each P (m ∷ ms) = P m × Each P ms
+
+pub each-last : (P : Move → Type 0) (ms : List Move) (m : Move) → Each P ms → P m → Each P (ms ++ (m ∷ []))
+each-last P [] m h e = (e, tt)
+each-last P (x ∷ ms) m h e = (h .0, each-last P ms m (h .1) e)
+
 -- sums whose terms add up
-pub over-two : (f g h : Move → ℕ) (ms : List Move) → ((m : Move) → f m ≡ g m + h m) → sumOver f ms ≡ sumOver g ms + sumOver h ms
+pub over-three : (P : Move → Type 0) (f g h k : Move → ℕ) (ms : List Move) → Each P ms → ((m : Move) → P m → f m ≡ g m + h m + k m)
+    → sumOver f ms ≡ sumOver g ms + sumOver h ms + sumOver k ms
 unfolding sumOver
-over-two f g h [] e = omega arith
-over-two f g h (m ∷ ms) e = omega (arith, e m, over-two f g h ms e)
+over-three P f g h k [] l e = omega arith
+over-three P f g h k (m ∷ ms) l e = omega (arith, e m (l .0), over-three P f g h k ms (l .1) e)
 
 pub map-last : {A B : Type 0} (f : A → B) (xs : List A) (x : A) → map f (xs ++ (x ∷ [])) ≡ map f xs ++ (f x ∷ [])
 map-last f [] x = refl

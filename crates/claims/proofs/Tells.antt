@@ -20,7 +20,7 @@ use Rattle.layout.proofs.Each.{and-true}
 use Rattle.post.specs.Moves.{said}
 use Rattle.post.specs.declared.moves.Move.{Move}
 use Rattle.post.proofs.moves.Laws.{move-fits}
-use Rattle.post.proofs.moves.Named.{said-is, move-named}
+use Rattle.post.proofs.moves.Named.{Named, said-is, move-named}
 use Rattle.book.specs.Entry.{enters, handles, sumsAfter, closes}
 use Rattle.book.specs.Posts.{postOn, takenTo, singleOn}
 use Rattle.book.specs.Site.{SoundSetup, SoundYear, inYear, bookWith, freshBook}
@@ -39,7 +39,7 @@ use Rattle.claims.specs.Demand as demand
 use Rattle.claims.specs.Standing.{Call, post, block, answerTo, run, keep, accepted, Standing, nothing, withPosts, stand, stood, standing, substancesOf, numbersOf, countedIn, movesOf, sumOver}
 use Rattle.claims.proofs.Setting.{SetBy, set-by, set-next}
 use Rattle.claims.proofs.State.{State, state-none, none-open, state-next}
-use Rattle.claims.proofs.Sums.{sum-nil, sum-last, map-last}
+use Rattle.claims.proofs.Sums.{Each, each-last, sum-nil, sum-last, map-last}
 
 -- ---- the relation
 
@@ -54,6 +54,7 @@ pub record Tells (w : Standing) (b : Book) : Type 0 where
   pub count : b .year .posts ≡ length (w .posts)
   pub entered : (s : ℕ) → s < 8 → inYear (b .setup) (b .year) s ≡ demand.entered w s
   pub handled : (s : ℕ) → s < 8 → getD (b .year .handled) s 0 ≡ demand.handled w s
+  pub named : Each Named (movesOf w)
   pub state : State (countedIn w) (b .setup .sides) (movesOf w) (b .year .sums) (b .year .closed)
 
 -- the substances of the book are those that stand
@@ -91,6 +92,7 @@ module _ (w : Standing) (u : Setup) (y : Year) (blocks : ℕ) (h : SoundSetup u)
         count = none ∙ sym (ap length no-posts);
         entered = λ s hs. in-none s hs ∙ sym (nothing-in (enters (countedIn w) s));
         handled = λ s hs. omega (arith, g .weighed s hs, in-none s hs, nothing-in (handles (countedIn w) s));
+        named = subst (Each Named) (sym no-moves) tt;
         state =
             subst (λ (ms : List Move). State (countedIn w) (u .sides) ms (y .sums) (y .closed)) (sym no-moves)
             (state-none (countedIn w) (u .sides) (y .sums) (y .closed) o
@@ -146,18 +148,20 @@ module _ (w : Standing) (b : Book) (z : Year) (s : List ℕ) (blocks : ℕ) (h :
       let m = p .move in
       let fit = move-fits (u .outline) (u .numbers) s m (p .admitted .told) in
       let room = room-of u y (h .sound .setup) (h .sound .year) m (p .admitted .is-open) fit in
+      let is-named = move-named (u .outline) (u .numbers) s m (p .admitted .told) in
       record {
         sound = record { setup = h .sound .setup; year = step .sound };
         setting = is-set by;
         count = omega (arith, step .one-more, h .count, length-append (w .posts) (s ∷ []));
         entered = λ i hi. omega (arith, step .entered i hi, h .entered i hi, sum-next (enters (countedIn w) i), ap (λ (l : List ℕ). enters l i m) counted-is);
         handled = λ i hi. omega (arith, step .handled i hi, h .handled i hi, sum-next (handles (countedIn w) i), ap (λ (l : List ℕ). handles l i m) counted-is);
+        named = subst (Each Named) (sym moves-next) (each-last Named (movesOf w) m (h .named) is-named);
         state =
             subst (λ (ms : List Move). State (countedIn w) (u .sides) ms (z .sums) (z .closed)) (sym moves-next)
             (subst (λ (x : Year). State (countedIn w) (u .sides) (movesOf w ++ (m ∷ [])) (x .sums) (x .closed)) (sym (p .year))
             (subst (λ (l : List ℕ). State (countedIn w) (u .sides) (movesOf w ++ (m ∷ [])) (sumsAfter l (u .sides) (y .sums) m) (closes m)) (sym counted-is)
             (state-next (countedIn w) (u .sides) (y .store) (y .sums) (movesOf w) (y .closed) m (h .sound .year .sums-long) (p .admitted .is-open) (room .fits)
-            (move-named (u .outline) (u .numbers) s m (p .admitted .told)) (p .there) (h .state))));
+            is-named (p .there) (h .state))));
       }
 
 -- posts in turn
@@ -171,7 +175,15 @@ tells-many w b z f zero blocks h e =
     let q : b .year ≡ z = cc in
     subst (λ (x : Year). Tells (withPosts w []) (bookWith (b .setup) x blocks)) q
     (subst (λ (ps : List (List ℕ)). Tells (record { first = w .first; stages = w .stages; posts = ps }) (bookWith (b .setup) (b .year) blocks)) (sym (append-nil (w .posts)))
-    (record { sound = record { setup = h .sound .setup; year = h .sound .year }; setting = h .setting; count = h .count; entered = h .entered; handled = h .handled; state = h .state }))
+    (record {
+      sound = record { setup = h .sound .setup; year = h .sound .year };
+      setting = h .setting;
+      count = h .count;
+      entered = h .entered;
+      handled = h .handled;
+      named = h .named;
+      state = h .state;
+    }))
 tells-many w b z f (suc n) blocks h e =
     let a = was-taken (takenTo (b .setup) (b .year) f n) (λ d. postOn (b .setup) d (f n)) z e in
     let before = tells-many w b (a .0) f n blocks h (a .1) in

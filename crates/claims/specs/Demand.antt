@@ -15,11 +15,12 @@ use Rattle.report.specs.declared.report.Filing.the-variants.{Figures}
 use Rattle.report.specs.declared.report.Report.{Report}
 use Rattle.claims.specs.Standing.{Call, run, Standing, standing, substancesOf, countedIn, movesOf, sumOver}
 
--- "Entered is g times counted content for each opening and bought post, and the quantity of each formed post of the substance."
+-- "Entered is g times counted content for each opening and bought post, and the quantity of each formed post of the substance." "The entering side of
+-- the sum gains the found amounts" (document 02, (b)).
 abbrev pub entered : Standing → ℕ → ℕ
 entered w s = sumOver (enters (countedIn w) s) (movesOf w)
 
--- "Handled is g times counted content for each issued post, and the same formed quantities."
+-- "Handled is g times counted content for each issued post, and the same formed quantities", and the found amounts, which count as handled.
 abbrev pub handled : Standing → ℕ → ℕ
 handled w s = sumOver (handles (countedIn w) s) (movesOf w)
 

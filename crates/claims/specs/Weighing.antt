@@ -1,4 +1,4 @@
--- The report as the posts say it (document 01, "Posts" and "Treatment and report"; document 003): each amount is a sum over the accepted posts of the list, by
+-- The report as the posts say it (document 01, "Posts" and "Treatment and report"; document 02, (b); document 003): each amount is a sum over the accepted posts of the list, by
 -- what the accepted set-up blocks say. All is read from bytes, and nothing from a book.
 use Prim.Native.Nat.{ℕ, _+_, _-_, _≤_, _<_}
 use mathlib.Core.Path.{_≡_}
@@ -74,13 +74,13 @@ issuesTo counted stage s (Brought a k t n) = 0
 issuesTo counted stage s (Gone a k t n) = 0
 issuesTo counted stage s Close = 0
 
--- "4 formed: stage, substance, micrograms in quantity": what comes from outside
-abbrev pub brought : ℕ → Move → ℕ
-brought s (Received m g) = 0
-brought s (Issued m k g) = 0
-brought s (Brought a k t n) = cond (eqb t s) n 0
-brought s (Gone a k t n) = 0
-brought s Close = 0
+-- what comes from outside to an account, at any stage
+abbrev pub brought : ℕ → ℕ → Move → ℕ
+brought account s (Received m g) = 0
+brought account s (Issued m k g) = 0
+brought account s (Brought a k t n) = cond (eqb a account && eqb t s) n 0
+brought account s (Gone a k t n) = 0
+brought account s Close = 0
 
 -- an amount at an account, a stage and a substance, where those are the ones named
 abbrev pub onlyAt : ℕ → ℕ → ℕ → ℕ → ℕ → ℕ → ℕ → ℕ
@@ -114,13 +114,17 @@ issued w s = sumOver (issues (countedIn w) s) (movesOf w)
 abbrev pub store : Standing → ℕ → ℕ
 store w s = received w s - issued w s
 
--- "the quantity of each formed post of the substance"
+-- "4 formed: stage, substance, micrograms in quantity. The holding grows"
 abbrev pub formed : Standing → ℕ → ℕ
-formed w s = sumOver (brought s) (movesOf w)
+formed w s = sumOver (brought held s) (movesOf w)
 
--- "Handled is issued plus formed"
+-- "Post kind 14, found ..; its amount goes to off site in the same step" (document 02, (b))
+abbrev pub found : Standing → ℕ → ℕ
+found w s = sumOver (brought offSite s) (movesOf w)
+
+-- "Handled is issued plus formed", and what was found "counts as handled"
 abbrev pub handledBy : Standing → ℕ → ℕ
-handledBy w s = issued w s + formed w s
+handledBy w s = issued w s + formed w s + found w s
 
 -- ---- a stage's sums
 
@@ -231,8 +235,8 @@ answerBy w s = checked (check (ltb s (substancesOf w)) noSubstance ∷ []) (repo
 pub record Weighed (w : Standing) (s : ℕ) : Type 0 where
   pub in-store : issued w s ≤ received w s
   pub in-holding : (stage : ℕ) → stage < 8 → left w s stage ≤ came w s stage
-  -- "which is opening + bought − closing + formed (document 003)", the closing stock being what is in store
-  pub handled-is : handledBy w s + store w s ≡ received w s + formed w s
+  -- "which is opening + bought − closing + formed (document 003)", the closing stock being what is in store; "The entering side of the sum gains the found amounts"
+  pub handled-is : handledBy w s + store w s ≡ received w s + formed w s + found w s
 
 -- for every list of calls given in turn to a fresh book, the report is what the accepted calls say
 pub record ReportByPosts : Type 0 where

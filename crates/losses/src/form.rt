@@ -2,11 +2,11 @@
 ghost use mathlib.Core.Path.{_≡_};
 ghost use Rattle.losses.specs.Binary64.{valueOf};
 ghost use Rattle.losses.specs.Form.{inputsOf, formOf, inputsAnswer, answer, AllUpward};
-use amounts::decline;
-use amounts::decline::Decline;
 use crate::pattern;
 use crate::pattern::FloatRead;
 use crate::pattern::Range;
+use amounts::decline;
+use amounts::decline::Decline;
 
 pub(crate) enum LossForm {
     FloatingRoof {

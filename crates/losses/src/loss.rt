@@ -8,12 +8,12 @@ ghost use Rattle.losses.specs.Loss.{floatingRoofKg, fixedRoofKg, station
 use crate::coefficient;
 use crate::coefficient::CoefficientRow;
 use crate::coefficient::Found;
-use amounts::decline;
-use amounts::decline::Decline;
 use crate::form;
 use crate::form::FormRead;
 use crate::form::LossForm;
 use crate::whole;
+use amounts::decline;
+use amounts::decline::Decline;
 
 enum Kg {
     Value(f64),

@@ -4,15 +4,15 @@ ghost use lib.ListN.{drop};
 ghost use Rattle.amounts.specs.Decline.{checked};
 ghost use Rattle.layout.specs.Verdict.{verdictOf};
 ghost use Rattle.plant.specs.Stage.{ratesAt, ratesFit, allRatesFit, stageBodyChecks, stageChecks};
-use layout::bytes;
-use layout::outline;
-use layout::outline::Outline;
 use crate::setup;
 use crate::setup::NO_RATES;
 use crate::setup::Rates;
+use amounts::decline;
+use layout::bytes;
+use layout::outline;
+use layout::outline::Outline;
 use layout::verdict::Verdict;
 use layout::verdict::row;
-use amounts::decline;
 
 // The rates of the row that stands from a place on, behind its side.
 pub fn rates_at(s: &[u8], at: usize) -> Rates

@@ -1,4 +1,4 @@
--- The kinds of posts (document 01, "Posts"): one row for each.
+-- The kinds of posts (document 01, "Posts"; document 02, (b)): one row for each.
 use Prim.Native.Nat.{ℕ, _+_, _*_, _^_}
 use mathlib.Core.Bool.{Bool, true, false, _&&_}
 use mathlib.Core.List.{List, [], _∷_}
@@ -93,7 +93,8 @@ pub record Row : Type 0 where
 abbrev row : ℕ → (Outline → Limits) → Measure → Does → Row
 row n l m d = record { number = n; limits = l; measure = m; does = d }
 
--- "1 opening, 2 bought", "3 issued", "4 formed", "5 shipped, 6 waste off site, 7 landfill on site, 8 soil, 9 consumed, 10 to gas, 11 to waste water", "12 vapour", "13 close"
+-- "1 opening, 2 bought", "3 issued", "4 formed", "5 shipped, 6 waste off site, 7 landfill on site, 8 soil, 9 consumed, 10 to gas, 11 to waste water", "12 vapour", "13 close";
+-- "Post kind 14, found, has stage, substance, content and grams; its amount goes to off site" (document 02, (b))
 unfoldable pub rows : List Row
 rows =
     row 1 ofStock Quantity Receives
@@ -109,6 +110,7 @@ rows =
     ∷ row 11 ofContent Content (Leaves water)
     ∷ row 12 ofForm Loss (Leaves vapour)
     ∷ row 13 ofNothing Quantity Closes
+    ∷ row 14 ofContent Content (Brings offSite)
     ∷ []
 
 abbrev pub rowIf : Bool → Row → Answer Row → Answer Row

@@ -197,6 +197,7 @@ pub fn kind_of(o: Outline, number: u8) -> KindRead
         11 => KindRead::Known(stated(o, Does::Leaves(WATER))),
         12 => KindRead::Known(evaporated(o)),
         13 => KindRead::Known(CLOSING),
+        14 => KindRead::Known(stated(o, Does::Brings(OFF_SITE))),
         _ => KindRead::Declined(decline::LAYOUT),
     }
 }

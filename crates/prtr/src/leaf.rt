@@ -10,12 +10,12 @@ ghost use Rattle.prtr.specs.Host.{numberOf, lent, oneOrZero};
 use amounts::content;
 use amounts::content::Counted;
 use amounts::filed;
-use losses::loss;
-use losses::loss::Loss;
 use amounts::threshold;
 use amounts::threshold::Due;
 use amounts::treatment;
 use amounts::treatment::Split;
+use losses::loss;
+use losses::loss::Loss;
 
 // The content in ppm that counts for a substance of the class.
 #[no_mangle]

@@ -38,8 +38,10 @@ pub(crate) fn kinds() {
     line::text(b"kinds\n");
     let mut b = sites::standing();
     b = desk::post(b, 0, 0, 0, 0, 0, 1);
-    b = desk::post(b, 14, 0, 0, 0, 0, 0);
+    b = desk::post(b, 15, 0, 0, 0, 0, 0);
     b = desk::post(b, 255, 0, 0, 0, 0, 1);
+    desk::reports(b);
+    b = trials::one(b, 14, Field::None, 0);
     desk::reports(b);
     b = trials::kinds(b, 1, 14, Field::None, 0);
     desk::reports(b);
@@ -49,7 +51,7 @@ pub(crate) fn unused() {
     line::text(b"unused fields\n");
     let mut b = sites::standing();
     b = trials::kinds(b, 4, 12, Field::Material, 1);
-    b = trials::one(b, 13, Field::Material, 1);
+    b = trials::kinds(b, 13, 15, Field::Material, 1);
     b = trials::kinds(b, 1, 3, Field::Stage, 1);
     b = trials::one(b, 13, Field::Stage, 1);
     b = trials::kinds(b, 1, 4, Field::Substance, 1);
@@ -72,6 +74,8 @@ pub(crate) fn indices() {
     b = trials::one(b, 12, Field::Material, 4);
     b = trials::kinds(b, 3, 13, Field::Stage, 2);
     b = trials::kinds(b, 4, 13, Field::Substance, 2);
+    b = trials::one(b, 14, Field::Stage, 2);
+    b = trials::one(b, 14, Field::Substance, 2);
     desk::reports(b);
 }
 
@@ -88,9 +92,15 @@ pub(crate) fn limits() {
     b = trials::one(b, 2, Field::Quantity, 4_294_967_297);
     b = trials::one(b, 4, Field::Quantity, 2_000_000_000_000_001);
     b = trials::one(b, 4, Field::Quantity, 18_446_744_073_709_551_615);
+    b = trials::one(b, 14, Field::Content, 0);
+    b = trials::one(b, 14, Field::Content, 1_000_001);
+    b = trials::one(b, 14, Field::Quantity, 0);
+    b = trials::one(b, 14, Field::Quantity, 2_000_000_001);
     desk::reports(b);
     b = trials::one(b, 5, Field::Content, 1_000_000);
     b = trials::one(b, 1, Field::Quantity, 2_000_000_000);
     b = trials::one(b, 4, Field::Quantity, 2_000_000_000_000_000);
+    b = trials::one(b, 14, Field::Content, 1_000_000);
+    b = trials::one(b, 14, Field::Quantity, 2_000_000_000);
     desk::reports(b);
 }

@@ -37,6 +37,7 @@ pub(crate) fn unused() {
     line::text(b"minus zeros\n");
     b = trials::kinds(b, 1, 12, Field::W, MINUS_ZERO);
     b = trials::kinds(b, 1, 13, Field::Q, MINUS_ZERO);
+    b = trials::one(b, 14, Field::U, MINUS_ZERO);
     b = trials::one(b, 13, Field::P, MINUS_ZERO);
     desk::reports(b);
 }

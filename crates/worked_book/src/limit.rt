@@ -50,6 +50,7 @@ pub(crate) fn reached() {
     b = desk::vapour(b, 1, 0, 1, ONE, 0, 0, 0);
     b = desk::vapour(b, 3, 0, 0, BILLION, BILLION, 0, 0);
     b = desk::post(b, 5, 0, 0, 1, 1, 1);
+    b = desk::post(b, 14, 0, 0, 1, 1, 1);
     b = desk::vapour(b, 3, 0, 0, 0, 0, 0, 0);
     desk::reports(b);
     b = desk::post(b, 13, 0, 1, 0, 0, 0);

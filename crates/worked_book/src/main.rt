@@ -11,6 +11,7 @@ mod posts;
 mod setups;
 mod sites;
 mod slips;
+mod sorting;
 mod stages;
 mod trials;
 mod weighed;
@@ -21,6 +22,7 @@ fn main() {
     xylene::year();
     weighed::list();
     year::whole();
+    sorting::year();
     declines::turns();
     declines::closed();
     declines::losses();

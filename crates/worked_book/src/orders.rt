@@ -15,7 +15,7 @@ pub(crate) fn layout_first() {
     line::text(b"6 before 7, 8, 9 and 11\n");
     let mut b = sites::standing();
     desk::reports(b);
-    b = trials::one(b, 14, Field::W, NAN);
+    b = trials::one(b, 15, Field::W, NAN);
     b = desk::vapour(b, 4, 0, 0, NAN, ONE, ONE, ONE);
     b = desk::vapour(b, 1, 2, 1, ONE, ONE, ONE, 0);
     b = desk::vapour(b, 3, 0, 2, BILLION, BILLION, 0, 0);

@@ -73,6 +73,9 @@ pub(crate) fn good(kind: u8) -> Post {
     if kind <= 11 {
         return of(kind, 0, 0, 0, 1, 1);
     }
+    if kind == 14 {
+        return of(kind, 0, 0, 0, 1, 1);
+    }
     if kind == 12 {
         return of(kind, 3, 0, 0, 0, 0);
     }

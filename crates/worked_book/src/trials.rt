@@ -32,5 +32,5 @@ pub(crate) fn others(mut b: Book, field: Field, x: u64) -> Book
     ensures { λ r. ⌜ Sound r ⌝ }
 {
     b = kinds(b, 1, 12, field, x);
-    one(b, 13, field, x)
+    kinds(b, 13, 15, field, x)
 }

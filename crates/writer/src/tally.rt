@@ -13,9 +13,9 @@ use layout::outline;
 use layout::outline::Outline;
 use layout::verdict::Verdict;
 use layout::verdict::row;
-use post::moves;
 use plant::setup;
 use plant::stage;
+use post::moves;
 
 // The outline of the set-up blocks that are written, the posts that wait for their block, and the blocks that are written.
 pub struct Tally {

@@ -115,7 +115,7 @@ all-well o = (
                       (omega arith, (refl, (refl, (refl, refl)))),
                       (
                         (omega arith, (refl, (refl, tt))),
-                        (refl, tt),
+                        (refl, ((omega arith, (refl, (refl, (refl, refl)))), tt)),
                       ),
                     ),
                   ),

@@ -1,6 +1,6 @@
--- What leaves a holding goes to another account. Assumes nothing.
-use mathlib.Core.Path.{_≡_, subst}
-use mathlib.Core.Bool.{Bool, true, false}
+-- What leaves a holding goes to another account, and what comes from outside comes to a holding or to off site. Assumes nothing.
+use mathlib.Core.Path.{_≡_, refl, subst}
+use mathlib.Core.Bool.{Bool, true, false, _||_}
 use mathlib.Core.List.{List, [], _∷_}
 use Prim.Native.Nat.{ℕ, _≤_}
 use native.Mathlib.Omega.{arith}
@@ -8,6 +8,7 @@ use lib.Dec.{eqb}
 use Rattle.amounts.specs.Decline.{Answer, taken}
 use Rattle.amounts.proofs.decline.Laws.{was-taken}
 use Rattle.layout.specs.declared.outline.Outline.{Outline}
+use Rattle.post.specs.Account.{held, offSite}
 use Rattle.post.specs.Fields.{postAt}
 use Rattle.post.specs.Kind.{Row, rows, rowIf, find, kindOf}
 use Rattle.post.specs.Moves.{measured, moveOf, moveIn, laidOut, moveAt, said}
@@ -33,10 +34,14 @@ said-is o numbers s m e = let z = row-read o numbers s m e in rw (z .1, z .2)
 
 -- ---- its account
 
+-- formed comes to a holding, found to off site
+abbrev pub comesTo : ℕ → Bool
+comesTo account = eqb account held || eqb account offSite
+
 abbrev Apart : Does → Type 0
 Apart Receives = Unit
 Apart Issues = Unit
-Apart (Brings account) = Unit
+Apart (Brings account) = comesTo account ≡ true
 Apart (Leaves account) = 1 ≤ account
 Apart Closes = Unit
 
@@ -53,8 +58,11 @@ all-apart = (
     (
       tt,
       (
-        tt,
-        (omega arith, (omega arith, (omega arith, (omega arith, (omega arith, (omega arith, (omega arith, (omega arith, (tt, tt))))))))),
+        refl,
+        (
+          omega arith,
+          (omega arith, (omega arith, (omega arith, (omega arith, (omega arith, (omega arith, (omega arith, (tt, (refl, tt))))))))),
+        ),
       ),
     ),
   ),
@@ -75,14 +83,14 @@ apart n r e = go rows all-apart e
 abbrev pub Named : Move → Type 0
 Named (Received m g) = Unit
 Named (Issued m stage g) = Unit
-Named (Brought account stage s n) = Unit
+Named (Brought account stage s n) = comesTo account ≡ true
 Named (Gone account stage s n) = 1 ≤ account
 Named Close = Unit
 
 by-does : (d : Does) (p : Post) (n : ℕ) → Apart d → Named (moveOf d p n)
 by-does Receives p n h = tt
 by-does Issues p n h = tt
-by-does (Brings account) p n h = tt
+by-does (Brings account) p n h = h
 by-does (Leaves account) p n h = h
 by-does Closes p n h = tt
 

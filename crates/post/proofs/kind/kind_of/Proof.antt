@@ -39,6 +39,9 @@ stated-requires-6 c κs = search needs
 stated-requires-7 : tie.Need-stated-requires-7
 stated-requires-7 c κs = search needs
 
+stated-requires-8 : tie.Need-stated-requires-8
+stated-requires-8 c κs = search needs
+
 evaporated-requires : tie.Need-evaporated-requires
 evaporated-requires c κs = search needs
 
@@ -95,8 +98,12 @@ unfolding kindOf
 returns-13 c = let a = c .before .args in known (a .o) (a .number) 13 _ (c .match .keys13) refl
 
 returns-14 : tie.Need-returns-14
+unfolding kindOf
+returns-14 c = let a = c .before .before .args in known (a .o) (a .number) 14 (taken (c .stated8 .result)) (c .before .match .keys14) (ap taken (c .stated8 .ensures))
+
+returns-15 : tie.Need-returns-15
 unfolding rows
-returns-14 c = let a = c .before .args in unknown (a .o) (a .number) (c .match .rest)
+returns-15 c = let a = c .before .args in unknown (a .o) (a .number) (c .match .rest)
 
 pub kind-of-spec : {M : Type 1} → statement M
 kind-of-spec =
@@ -114,6 +121,7 @@ kind-of-spec =
     stated-requires-6
     stated-requires-7
     evaporated-requires
+    stated-requires-8
     returns
     returns-2
     returns-3
@@ -127,4 +135,5 @@ kind-of-spec =
     returns-11
     returns-12
     returns-13
-    returns-14)
+    returns-14
+    returns-15)
