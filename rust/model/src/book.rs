@@ -20,7 +20,7 @@ pub struct Book {
     closed: bool,
     /// Grams of each material in store.
     pub(crate) stores: [u64; MATERIALS],
-    /// "Handled is issued plus formed", for each substance.
+    /// "Handled is issued plus formed", and plus found, for each substance.
     pub(crate) handled: [u64; SUBSTANCES],
     /// One account for each stage and substance.
     pub(crate) accounts: [[Account; SUBSTANCES]; STAGES],
@@ -170,7 +170,7 @@ impl Book {
         }
     }
 
-    /// Carries an amount that is where it comes from.
+    /// Decline 11, of what is held alone, and then an amount goes from one place to another.
     fn carry(&mut self, pair: Pair, from: Where, to: Where, amount: u64) -> Result<(), u8> {
         let account = &mut self.accounts[usize::from(pair.stage)][usize::from(pair.substance)];
         let handled = &mut self.handled[usize::from(pair.substance)];

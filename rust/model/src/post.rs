@@ -14,7 +14,7 @@ const MOST_GRAMS: u64 = 2_000_000_000;
 /// "In micrograms 1 to 2×10^15."
 const MOST_MICROGRAMS: u64 = 2_000_000_000_000_000;
 
-/// The names under which a substance leaves a holding.
+/// The names under which a substance leaves a stage.
 #[derive(Debug, Clone, Copy, PartialEq, Eq)]
 pub(crate) enum Exit {
     Shipped,
@@ -50,8 +50,8 @@ pub(crate) enum Move {
     Stock { material: u8, grams: u64 },
     /// "The store falls; the stage's holding of each substance grows."
     Issue { material: u8, stage: u8, grams: u64 },
-    /// An amount goes from one side of a holding to another, as in "the holding falls by g times
-    /// content, which is added under that name".
+    /// An amount goes from one place to another, as in "the holding falls by g times content, which
+    /// is added under that name".
     Carry {
         pair: Pair,
         from: Where,
@@ -84,6 +84,8 @@ enum Amount {
 
 /// "The holding grows."
 const FORMED: Does = Does::Carry(Where::Outside, Where::Held, Amount::Quantity);
+/// Document 02 (b): "its amount goes to off site in the same step and counts as handled".
+const FOUND: Does = Does::Carry(Where::Outside, Where::Gone(Exit::OffSite), Amount::Part);
 /// "The holding falls by the loss, which goes to air untreated."
 const LOST: Does = Does::Carry(Where::Held, Where::Gone(Exit::Vapour), Amount::Loss);
 
@@ -182,6 +184,7 @@ impl Fields {
                 no_material && no_pair && no_content && no_quantity,
                 Does::Close,
             ),
+            14 => (part, FOUND),
             _ => return None,
         };
         fits.then_some(does)
