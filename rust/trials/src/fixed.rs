@@ -2,6 +2,8 @@
 
 use blocks::{journal, plan, record, set_up, with_floats, xylene, Block, Post, BODY, POST, SUMS};
 
+use crate::ledger::MOST_GRAMS;
+use crate::site::WHOLE;
 use crate::writes::{add_end, add_post, add_set_up, of_journal, MALFORMED};
 
 /// A list, and what is written of it with room enough.
@@ -86,6 +88,7 @@ pub fn all() -> Vec<Fixed> {
         kinds_and_lengths(),
         layouts(),
         floats(),
+        vec![found()],
         malformed(),
     ]
     .into_iter()
@@ -278,6 +281,52 @@ fn floats() -> Vec<Fixed> {
         2,
         &[3, 1],
     )]
+}
+
+/// Document 02 (b): posts of kind 14 at both ends of their limits are written, and 6 and 7 of those beyond aren't.
+fn found() -> Fixed {
+    let blocks = xylene::site().blocks();
+    let of = |content, grams| Post::found((0, 0), content, grams);
+    let taken = [
+        of(1, 1),
+        of(WHOLE, 1),
+        of(1, MOST_GRAMS),
+        of(WHOLE, MOST_GRAMS),
+    ];
+    let mut material = of(1, 1);
+    material.material = 1;
+    let mut odd = of(1, 1);
+    odd.floats[2] = 1;
+    let sixes = [
+        of(0, 1),
+        of(WHOLE + 1, 1),
+        of(1, 0),
+        of(1, MOST_GRAMS + 1),
+        Post::found((1, 0), 1, 1),
+        Post::found((0, 1), 1, 1),
+        material,
+        Post {
+            kind: 15,
+            ..of(1, 1)
+        },
+    ];
+    let mut list = Vec::new();
+    blocks.iter().for_each(|block| add_set_up(&mut list, block));
+    for post in taken.iter().chain(&sixes).chain([&odd]).chain(&taken) {
+        add_post(&mut list, &post.bytes());
+    }
+    let refused = (0..9).map(|place| (6 + place, if place < 8 { 6 } else { 7 }));
+    let posts = [taken, taken].concat();
+    Fixed {
+        name: "found posts and their limits",
+        list,
+        refused: refused.collect(),
+        journal: journal(
+            blocks,
+            &posts.iter().map(Post::bytes).collect::<Vec<_>>(),
+            &[8],
+        ),
+    }
 }
 
 /// A malformed record ends the reading: what is behind it isn't written.
