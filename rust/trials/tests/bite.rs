@@ -10,8 +10,10 @@ use trials::year::Year;
 
 /// A slip of the trade.
 enum Slip {
-    /// The right model answers on this other year as the slip does on the year.
+    /// The right model answers on this other year as the slip does on the year; where it refuses, nothing shows.
     Edit(fn(&mut Year)),
+    /// The same, where a refusal shows the slip too.
+    Refuse(fn(&mut Year)),
     /// Whether the slip prints something else than the library's lines.
     Print(fn(&Year, &[Line]) -> bool),
 }
@@ -248,16 +250,22 @@ fn ten_with_a_decimal(year: &Year, lines: &[Line]) -> bool {
         .any(|(line, report)| line.figures.iter().zip(report.headings).any(rounded_up))
 }
 
-/// Whether a slip shows in a year; a year that is refused with the slip doesn't count.
+/// What the model prints of a year with a slip.
+fn slipped(edit: fn(&mut Year), year: &Year) -> Vec<u8> {
+    let mut other = year.clone();
+    edit(&mut other);
+    model::filing(other.blocks().as_flattened())
+}
+
+/// Whether a slip shows in a year.
 fn shows(slip: &Slip, year: &Year) -> bool {
     let text = text_of(year.blocks().as_flattened());
     match slip {
         Slip::Edit(edit) => {
-            let mut slipped = year.clone();
-            edit(&mut slipped);
-            let other = model::filing(slipped.blocks().as_flattened());
+            let other = slipped(*edit, year);
             !other.starts_with(b"refused") && other != text
         }
+        Slip::Refuse(edit) => slipped(*edit, year) != text,
         Slip::Print(differs) => differs(year, &lines(&text)),
     }
 }
@@ -278,8 +286,8 @@ fn slips_show_in_the_generated_years() {
         ("found and held", Slip::Edit(found_and_held), 40),
         (
             "found from the holding",
-            Slip::Edit(found_from_the_holding),
-            10,
+            Slip::Refuse(found_from_the_holding),
+            80,
         ),
         ("found and cut", Slip::Edit(found_and_cut), 40),
         ("found not handled", Slip::Print(found_not_handled), 80),
