@@ -35,7 +35,8 @@ fn only_found(posts: u32, number: u16, amount: u64) -> Report {
     }
 }
 
-/// "Its amount goes to off site in the same step and counts as handled", whatever the stage does with residues and water.
+/// "Its amount goes to off site in the same step and counts as handled", wherever the stage's residues
+/// and water go.
 #[test]
 fn it_goes_off_site_where_nothing_is_held() {
     for stage in 0..2 {

@@ -74,7 +74,7 @@ fn reports(year: &Year, close: bool) -> Vec<model::Report> {
     asked.map_or_else(|_| Vec::new(), Result::unwrap_or_default)
 }
 
-/// Forms what is missing to an edge and lets it leave under the heading, or finds it in the same step, so that no holding changes.
+/// Forms what is missing to an edge and lets it leave under the heading, or finds it there, so that no holding changes.
 fn raise(rng: &mut Rng, year: &mut Year, heading: usize, substance: u8, amount: u64) {
     let quantity = missing(rng, amount);
     let Some(stage) = stage_for(rng, &year.site, heading, substance) else {

@@ -283,49 +283,48 @@ fn floats() -> Vec<Fixed> {
     )]
 }
 
-/// Document 02 (b): posts of kind 14 at both ends of their limits are written, and 6 and 7 of those beyond aren't.
+/// A post of kind 14 at the xylene plant.
+fn found_post(content: u32, grams: u64) -> Post {
+    Post::found((0, 0), content, grams)
+}
+
+/// Posts of kind 14 that break a limit each, and one of kind 15.
+fn beyond_found() -> [Post; 8] {
+    let one = found_post(1, 1);
+    [
+        found_post(0, 1),
+        found_post(WHOLE + 1, 1),
+        found_post(1, 0),
+        found_post(1, MOST_GRAMS + 1),
+        Post { stage: 1, ..one },
+        Post {
+            substance: 1,
+            ..one
+        },
+        Post { material: 1, ..one },
+        Post { kind: 15, ..one },
+    ]
+}
+
+/// Document 02 (b): posts of kind 14 at both ends of their limits are taken, and 6 and 7 of those beyond.
 fn found() -> Fixed {
     let blocks = xylene::site().blocks();
-    let of = |content, grams| Post::found((0, 0), content, grams);
-    let taken = [
-        of(1, 1),
-        of(WHOLE, 1),
-        of(1, MOST_GRAMS),
-        of(WHOLE, MOST_GRAMS),
-    ];
-    let mut material = of(1, 1);
-    material.material = 1;
-    let mut odd = of(1, 1);
-    odd.floats[2] = 1;
-    let sixes = [
-        of(0, 1),
-        of(WHOLE + 1, 1),
-        of(1, 0),
-        of(1, MOST_GRAMS + 1),
-        Post::found((1, 0), 1, 1),
-        Post::found((0, 1), 1, 1),
-        material,
-        Post {
-            kind: 15,
-            ..of(1, 1)
-        },
-    ];
+    let ends = [(1, 1), (WHOLE, 1), (1, MOST_GRAMS), (WHOLE, MOST_GRAMS)];
+    let taken = ends.map(|(content, grams)| found_post(content, grams).bytes());
+    let beyond = beyond_found().map(|post| post.bytes());
+    let odd = with_floats(taken[0], [0, 0, 1, 0]);
     let mut list = Vec::new();
     blocks.iter().for_each(|block| add_set_up(&mut list, block));
-    for post in taken.iter().chain(&sixes).chain([&odd]).chain(&taken) {
-        add_post(&mut list, &post.bytes());
+    for post in taken.iter().chain(&beyond).chain([&odd]).chain(&taken) {
+        add_post(&mut list, post);
     }
-    let refused = (0..9).map(|place| (6 + place, if place < 8 { 6 } else { 7 }));
-    let posts = [taken, taken].concat();
+    let first = blocks.len() + taken.len();
+    let sixes = (first..).zip([6; 8]);
     Fixed {
         name: "found posts and their limits",
         list,
-        refused: refused.collect(),
-        journal: journal(
-            blocks,
-            &posts.iter().map(Post::bytes).collect::<Vec<_>>(),
-            &[8],
-        ),
+        refused: sixes.chain([(first + beyond.len(), 7)]).collect(),
+        journal: journal(blocks, &[taken, taken].concat(), &[8]),
     }
 }
 

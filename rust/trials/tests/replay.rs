@@ -14,8 +14,8 @@ const LISTS: u64 = 200;
 const REPORTS: u64 = 3_000;
 /// How often each of the declines 1 to 12 must have been met.
 const MET: u64 = 10;
-/// The answers that calls with a found post in them must have had as often: taken, and each decline that a found post, or
-/// a later one of its block, has.
+/// The answers that calls with a found post must have had as often: taken, and the declines of such a post or of a later
+/// one of its block.
 const OF_FOUND: [usize; 6] = [0, 5, 6, 7, 10, 11];
 
 /// A list by the numbers of its case.
@@ -56,8 +56,11 @@ fn enough(counts: &Counts) {
         found,
     } = counts;
     say(&format!(
-        "replay: {lists} lists of {posts} posts, {blocks} blocks and {reports} reports; declined{}; with found posts, taken {} and declined{}",
-        declines(numbers),
+        "replay: {lists} lists of {posts} posts, {blocks} blocks and {reports} reports; declined{}",
+        declines(numbers)
+    ));
+    say(&format!(
+        "replay: {} calls with found posts taken; declined{}",
         found[0],
         declines(found)
     ));
