@@ -9,7 +9,7 @@ pub type Holding = (u8, u8);
 /// A post by its fields.
 #[derive(Clone, Copy, Debug, Default, PartialEq)]
 pub struct Post {
-    /// 1 to 13.
+    /// 1 to 14.
     pub kind: u8,
     /// The material, or the form in kind 12.
     pub material: u8,
@@ -91,6 +91,11 @@ impl Post {
             floats,
             ..Post::default()
         }
+    }
+
+    /// Kind 14.
+    pub fn found(holding: Holding, content: u32, quantity: u64) -> Post {
+        Post::left(14, holding, content, quantity)
     }
 
     /// The post's 48 bytes.

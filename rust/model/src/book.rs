@@ -2,7 +2,7 @@
 
 use crate::block::{self, u16_at, zero_from, Block, BODY};
 use crate::decline::{CLOSED, FULL, LAYOUT, NOT_NEXT, SHORT};
-use crate::post::{self, Exit, Move, Pair};
+use crate::post::{self, Exit, Move, Pair, Where};
 use crate::setup::{SetUp, MATERIALS, STAGES, SUBSTANCES};
 
 /// "4,000 posts are accepted and this isn't the close."
@@ -20,7 +20,7 @@ pub struct Book {
     closed: bool,
     /// Grams of each material in store.
     pub(crate) stores: [u64; MATERIALS],
-    /// "Handled is issued plus formed", for each substance.
+    /// "Handled is issued plus formed", and plus found, for each substance.
     pub(crate) handled: [u64; SUBSTANCES],
     /// One account for each stage and substance.
     pub(crate) accounts: [[Account; SUBSTANCES]; STAGES],
@@ -134,15 +134,12 @@ impl Book {
                 fall(&mut self.stores[usize::from(material)], grams)?;
                 self.issue(material, stage, |sum, ppm| *sum += grams * ppm);
             }
-            Move::Form { pair, amount } => {
-                self.account(pair).held += amount;
-                self.handled[usize::from(pair.substance)] += amount;
-            }
-            Move::Leave { pair, exit, amount } => {
-                let account = self.account(pair);
-                fall(&mut account.held, amount)?;
-                account.exits[exit as usize] += amount;
-            }
+            Move::Carry {
+                pair,
+                from,
+                to,
+                amount,
+            } => self.carry(pair, from, to, amount)?,
             Move::Close => self.turn_closed(),
         }
         Ok(())
@@ -161,21 +158,33 @@ impl Book {
                 self.stores[usize::from(material)] += grams;
                 self.issue(material, stage, |sum, ppm| *sum -= grams * ppm);
             }
-            Move::Form { pair, amount } => {
-                self.account(pair).held -= amount;
-                self.handled[usize::from(pair.substance)] -= amount;
-            }
-            Move::Leave { pair, exit, amount } => {
-                let account = self.account(pair);
-                account.held += amount;
-                account.exits[exit as usize] -= amount;
-            }
+            Move::Carry {
+                pair,
+                from,
+                to,
+                amount,
+            } => self
+                .carry(pair, to, from, amount)
+                .expect("what was carried is there"),
             Move::Close => self.turn_closed(),
         }
     }
 
-    fn account(&mut self, pair: Pair) -> &mut Account {
-        &mut self.accounts[usize::from(pair.stage)][usize::from(pair.substance)]
+    /// Decline 11, of what is held alone, and then an amount goes from one place to another.
+    fn carry(&mut self, pair: Pair, from: Where, to: Where, amount: u64) -> Result<(), u8> {
+        let account = &mut self.accounts[usize::from(pair.stage)][usize::from(pair.substance)];
+        let handled = &mut self.handled[usize::from(pair.substance)];
+        match from {
+            Where::Outside => *handled += amount,
+            Where::Held => fall(&mut account.held, amount)?,
+            Where::Gone(exit) => fall(&mut account.exits[exit as usize], amount)?,
+        }
+        match to {
+            Where::Outside => *handled -= amount,
+            Where::Held => account.held += amount,
+            Where::Gone(exit) => account.exits[exit as usize] += amount,
+        }
+        Ok(())
     }
 
     /// "The stage's holding of each substance grows by g times counted content", and handled with

@@ -1,5 +1,5 @@
-//! Document 01 in plain Rust: one site's book for one year, from posts to the PRTR return; and the
-//! writer of journals of document 02 (a).
+//! Document 01 in plain Rust: one site's book for one year, from posts to the PRTR return; with the
+//! writer of journals of document 02 (a) and the found amounts of (b).
 //!
 //! This is an independent model. It was written from the papers and their readings alone, so that a
 //! slip shared with another implementation is unlikely. The book is mutable and updated in place.

@@ -14,7 +14,7 @@ const MOST_GRAMS: u64 = 2_000_000_000;
 /// "In micrograms 1 to 2×10^15."
 const MOST_MICROGRAMS: u64 = 2_000_000_000_000_000;
 
-/// The names under which a substance leaves a holding: kinds 5 to 12 in their order.
+/// The names under which a substance leaves a stage.
 #[derive(Debug, Clone, Copy, PartialEq, Eq)]
 pub(crate) enum Exit {
     Shipped,
@@ -27,17 +27,14 @@ pub(crate) enum Exit {
     Vapour,
 }
 
-/// "5 shipped, 6 waste off site, 7 landfill on site, 8 soil, 9 consumed, 10 to gas, 11 to waste
-/// water."
-const EXITS: [Exit; 7] = [
-    Exit::Shipped,
-    Exit::OffSite,
-    Exit::Landfill,
-    Exit::Soil,
-    Exit::Consumed,
-    Exit::Gas,
-    Exit::Water,
-];
+/// Where an amount of a substance is, as a stage sees it.
+#[derive(Debug, Clone, Copy, PartialEq, Eq)]
+pub(crate) enum Where {
+    /// Not in the book yet: what comes from there is handled.
+    Outside,
+    Held,
+    Gone(Exit),
+}
 
 /// A stage and a substance, by their places.
 #[derive(Debug, Clone, Copy, PartialEq, Eq)]
@@ -49,16 +46,52 @@ pub(crate) struct Pair {
 /// What a post does to the book, its places known to be there and its amount in its limits.
 #[derive(Debug, Clone, Copy, PartialEq, Eq)]
 pub(crate) enum Move {
-    /// Kinds 1 and 2: "The store of that material grows."
+    /// "The store of that material grows."
     Stock { material: u8, grams: u64 },
-    /// Kind 3: "The store falls; the stage's holding of each substance grows."
+    /// "The store falls; the stage's holding of each substance grows."
     Issue { material: u8, stage: u8, grams: u64 },
-    /// Kind 4: "The holding grows."
-    Form { pair: Pair, amount: u64 },
-    /// Kinds 5 to 12: "The holding falls by [the amount], which is added under that name."
-    Leave { pair: Pair, exit: Exit, amount: u64 },
-    /// Kind 13: "Each holding moves to gas or waste water [...], and no post follows."
+    /// An amount goes from one place to another, as in "the holding falls by g times content, which
+    /// is added under that name".
+    Carry {
+        pair: Pair,
+        from: Where,
+        to: Where,
+        amount: u64,
+    },
+    /// "Each holding moves to gas or waste water [...], and no post follows."
     Close,
+}
+
+/// Which move a kind makes of its fields.
+#[derive(Clone, Copy)]
+enum Does {
+    Stock,
+    Issue,
+    Carry(Where, Where, Amount),
+    Close,
+}
+
+/// What the amount of a post is worked out from.
+#[derive(Clone, Copy)]
+enum Amount {
+    /// "Micrograms in quantity."
+    Quantity,
+    /// "g times content", as the post states it.
+    Part,
+    /// "The loss", of the floats.
+    Loss,
+}
+
+/// "The holding grows."
+const FORMED: Does = Does::Carry(Where::Outside, Where::Held, Amount::Quantity);
+/// Document 02 (b): "its amount goes to off site in the same step and counts as handled".
+const FOUND: Does = Does::Carry(Where::Outside, Where::Gone(Exit::OffSite), Amount::Part);
+/// "The holding falls by the loss, which goes to air untreated."
+const LOST: Does = Does::Carry(Where::Held, Where::Gone(Exit::Vapour), Amount::Loss);
+
+/// "The holding falls by g times content, which is added under that name."
+const fn left(exit: Exit) -> Does {
+    Does::Carry(Where::Held, Where::Gone(exit), Amount::Part)
 }
 
 /// "0 kind, 1 material (in kind 12: form), 2 stage, 3 substance, 4–7 content, 8–15 quantity,
@@ -75,7 +108,8 @@ struct Fields {
 impl Move {
     /// Passes a post through declines 6 to 9.
     pub(crate) fn read(bytes: &[u8], plan: &Plan) -> Result<Move, u8> {
-        Fields::passed(bytes, plan)?.meaning(plan)
+        let (fields, does) = Fields::passed(bytes, plan)?;
+        fields.meaning(does, plan)
     }
 }
 
@@ -85,13 +119,14 @@ pub(crate) fn check(bytes: &[u8], plan: &Plan) -> Result<(), u8> {
 }
 
 impl Fields {
-    /// The fields of a post that passes declines 6 and 7.
-    fn passed(bytes: &[u8], plan: &Plan) -> Result<Fields, u8> {
+    /// A post that passes declines 6 and 7, and what it does.
+    fn passed(bytes: &[u8], plan: &Plan) -> Result<(Fields, Does), u8> {
         let fields = Fields::read(bytes)?;
-        if !fields.laid_out(plan) {
-            return Err(LAYOUT);
-        }
-        fields.floats_fit().then_some(fields).ok_or(FLOAT)
+        let does = fields.laid_out(plan).ok_or(LAYOUT)?;
+        fields
+            .floats_fit(does)
+            .then_some((fields, does))
+            .ok_or(FLOAT)
     }
 
     fn read(bytes: &[u8]) -> Result<Fields, u8> {
@@ -114,70 +149,85 @@ impl Fields {
         })
     }
 
-    /// Decline 6: the kind is known, each place used is the book's, each number used is in its
-    /// limits, and "a field that a kind doesn't use is zero", floats aside.
-    fn laid_out(&self, plan: &Plan) -> bool {
+    /// What the post does, by its kind, or none by decline 6: the kind is known, each place used is
+    /// the book's, each number used is in its limits, and "a field that a kind doesn't use is zero",
+    /// floats aside.
+    fn laid_out(&self, plan: &Plan) -> Option<Does> {
         let Pair { stage, substance } = self.pair;
-        let (no_material, no_stage, no_substance) =
-            (self.material == 0, stage == 0, substance == 0);
-        let (no_content, no_quantity) = (self.content == 0, self.quantity == 0);
         let material = usize::from(self.material) < plan.materials;
         let in_stage = usize::from(stage) < plan.stages;
-        let of_substance = usize::from(substance) < plan.substances;
-        let content = (1..=WHOLE).contains(&self.content);
+        let of_pair = in_stage && usize::from(substance) < plan.substances;
+        let (no_material, no_pair) = (self.material == 0, stage == 0 && substance == 0);
+        let (no_content, no_quantity) = (self.content == 0, self.quantity == 0);
         let grams = (1..=MOST_GRAMS).contains(&self.quantity);
         let micrograms = (1..=MOST_MICROGRAMS).contains(&self.quantity);
-        match self.kind {
-            1 | 2 => material && no_stage && no_substance && no_content && grams,
-            3 => material && in_stage && no_substance && no_content && grams,
-            4 => no_material && in_stage && of_substance && no_content && micrograms,
-            5..=11 => no_material && in_stage && of_substance && content && grams,
-            12 => is_form(self.material) && in_stage && of_substance && no_content && no_quantity,
-            13 => no_material && no_stage && no_substance && no_content && no_quantity,
-            _ => false,
-        }
+        let part = no_material && of_pair && (1..=WHOLE).contains(&self.content) && grams;
+        let (fits, does) = match self.kind {
+            1 | 2 => (material && no_pair && no_content && grams, Does::Stock),
+            3 => (
+                material && in_stage && substance == 0 && no_content && grams,
+                Does::Issue,
+            ),
+            4 => (no_material && of_pair && no_content && micrograms, FORMED),
+            5 => (part, left(Exit::Shipped)),
+            6 => (part, left(Exit::OffSite)),
+            7 => (part, left(Exit::Landfill)),
+            8 => (part, left(Exit::Soil)),
+            9 => (part, left(Exit::Consumed)),
+            10 => (part, left(Exit::Gas)),
+            11 => (part, left(Exit::Water)),
+            12 => (
+                is_form(self.material) && of_pair && no_content && no_quantity,
+                LOST,
+            ),
+            13 => (
+                no_material && no_pair && no_content && no_quantity,
+                Does::Close,
+            ),
+            14 => (part, FOUND),
+            _ => return None,
+        };
+        fits.then_some(does)
     }
 
     /// Decline 7: the floats of a vapour are in its form's ranges, and else each is 0.0 or -0.0:
     /// nothing is left of it but, perhaps, the sign.
-    fn floats_fit(&self) -> bool {
+    fn floats_fit(&self, does: Does) -> bool {
         let [w, u, p, q] = self.floats;
-        match self.kind {
-            12 => in_range(self.material, &self.floats.map(f64::from_bits)),
+        match does {
+            Does::Carry(_, _, Amount::Loss) => {
+                in_range(self.material, &self.floats.map(f64::from_bits))
+            }
             _ => (w | u | p | q) << 1 == 0,
         }
     }
 
-    /// What a post that is laid out does; a loss may yet be declined by 8 or 9.
-    fn meaning(&self, plan: &Plan) -> Result<Move, u8> {
-        let (material, pair, quantity) = (self.material, self.pair, self.quantity);
-        Ok(match self.kind {
-            1 | 2 => Move::Stock {
-                material,
-                grams: quantity,
-            },
-            3 => Move::Issue {
+    /// The move of a post that is laid out; a loss may yet be declined by 8 or 9.
+    fn meaning(&self, does: Does, plan: &Plan) -> Result<Move, u8> {
+        let (material, pair, grams) = (self.material, self.pair, self.quantity);
+        Ok(match does {
+            Does::Stock => Move::Stock { material, grams },
+            Does::Issue => Move::Issue {
                 material,
                 stage: pair.stage,
-                grams: quantity,
+                grams,
             },
-            4 => Move::Form {
+            Does::Carry(from, to, amount) => Move::Carry {
                 pair,
-                amount: quantity,
+                from,
+                to,
+                amount: self.amount(amount, plan)?,
             },
-            12 => Move::Leave {
-                pair,
-                exit: Exit::Vapour,
-                amount: self.loss(plan)?,
-            },
-            13 => Move::Close,
-            // "The holding falls by g times content."
-            kind => Move::Leave {
-                pair,
-                exit: EXITS[usize::from(kind - 5)],
-                amount: quantity * u64::from(self.content),
-            },
+            Does::Close => Move::Close,
         })
+    }
+
+    fn amount(&self, amount: Amount, plan: &Plan) -> Result<u64, u8> {
+        match amount {
+            Amount::Quantity => Ok(self.quantity),
+            Amount::Part => Ok(self.quantity * u64::from(self.content)),
+            Amount::Loss => self.loss(plan),
+        }
     }
 
     /// "12 vapour: form, stage, substance, floats."

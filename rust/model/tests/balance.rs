@@ -31,12 +31,13 @@ fn draw(dice: &mut Dice) -> Post {
         dice.below(2) as u8,
     );
     let (grams, content) = (1 + dice.below(2_000), 1 + dice.below(30_000) as u32);
-    let mut post = match dice.below(40) {
+    let mut post = match dice.below(44) {
         0..=7 => opening(material, grams * 20),
         8..=12 => bought(material, grams * 20),
         13..=22 => issued(material, place, grams * 5),
         23..=26 => formed(place, substance, grams * 500_000_000),
         27..=36 => leaves(5 + dice.below(7) as u8, place, substance, content, grams),
+        37..=40 => found(place, substance, content, grams),
         _ => vapour(
             3,
             place,
@@ -64,6 +65,7 @@ struct Sums {
 impl Sums {
     fn add(&mut self, post: &Post) {
         let quantity = u64::from_le_bytes(post[8..16].try_into().unwrap());
+        let content = u64::from(u32::from_le_bytes(post[4..8].try_into().unwrap()));
         self.posts += 1;
         for (s, (entered, handled)) in self.entered.iter_mut().zip(&mut self.handled).enumerate() {
             match post[0] {
@@ -72,6 +74,10 @@ impl Sums {
                 4 if usize::from(post[3]) == s => {
                     *entered += quantity;
                     *handled += quantity;
+                }
+                14 if usize::from(post[3]) == s => {
+                    *entered += quantity * content;
+                    *handled += quantity * content;
                 }
                 _ => {}
             }

@@ -38,7 +38,11 @@ fn year() -> Vec<Post> {
         formed(1, 1, 2_000_000_000_000_000),
     ];
     posts.extend((5..=11).map(|kind| leaves(kind, 1, 1, 1_000, 1_000)));
-    posts.extend([vapour(3, 1, 1, [1.0, 1.0, 0.0, 0.0]), close()]);
+    posts.extend([
+        vapour(3, 1, 1, [1.0, 1.0, 0.0, 0.0]),
+        found(1, 1, 1_000, 1_000),
+        close(),
+    ]);
     posts
 }
 
@@ -48,7 +52,7 @@ fn uses(kind: u8) -> [bool; 5] {
         1 | 2 => [true, false, false, false, true],
         3 => [true, true, false, false, true],
         4 => [false, true, true, false, true],
-        5..=11 => [false, true, true, true, true],
+        5..=11 | 14 => [false, true, true, true, true],
         12 => [true, true, true, false, false],
         _ => [false; 5],
     }
@@ -91,7 +95,7 @@ fn each_field_has_its_limits_and_each_unused_field_is_zero() {
         }
         assert_eq!(book.post(&post), Ok(()));
     }
-    assert_eq!(book.report(0).unwrap().posts, 13);
+    assert_eq!(book.report(0).unwrap().posts, 14);
 }
 
 #[test]
@@ -123,8 +127,8 @@ fn an_unused_float_is_zero_of_either_sign() {
 }
 
 #[test]
-fn kinds_are_1_to_13() {
-    for kind in [0, 14, 255] {
+fn kinds_are_1_to_14() {
+    for kind in (15..=255).chain([0]) {
         declines(&plant(), &post(kind, 0, 0, 0, 0, 0), 6);
         declines(&plant(), &post(kind, 0, 0, 0, 1, 1), 6);
     }
@@ -178,6 +182,7 @@ fn four_thousand_posts_and_the_close() {
     }
     declines(&book, &opening(0, 1), 10);
     declines(&book, &leaves(5, 0, 0, 1, 1), 10);
+    declines(&book, &found(0, 0, 1, 1), 10);
     declines(&book, &opening(0, 0), 6);
     declines(&book, &with_floats(opening(0, 1), [1; 4]), 7);
     declines(&book, &vapour(1, 0, 0, [1.0, 1.0, 1.0, 0.0]), 8);

@@ -277,7 +277,8 @@ fn the_layout_and_the_floats_of_a_post() {
     }
     for wrong in [
         post(0, 0, 0, 0, 0, 0),
-        post(14, 0, 0, 0, 1, 1),
+        post(15, 0, 0, 0, 1, 1),
+        found(0, 0, 1_000_001, 1),
         opening(1, 1),
         opening(0, 0),
         issued(0, 1, 1),
@@ -363,12 +364,13 @@ fn below(dice: &mut u64, end: u64) -> u64 {
 /// A post of the xylene plant, at times one that a writer or a book declines.
 fn draw(dice: &mut u64) -> Post {
     let grams = 1 + below(dice, 1_000);
-    match below(dice, 30) {
+    match below(dice, 33) {
         0..=9 => opening(0, grams * 10),
         10..=18 => issued(0, 0, grams),
         19..=26 => leaves(5 + below(dice, 7) as u8, 0, 0, 100_000, grams),
         27 => vapour(3, 0, 0, [grams as f64 * 1e-6, 1.0, 0.0, 0.0]),
         28 => opening(below(dice, 2) as u8, grams - 1),
+        29 | 30 => found(0, 0, 1 + below(dice, 1_000_001) as u32, grams),
         _ => with_floats(opening(0, grams), [below(dice, 2), 0, 0, 1 << 63]),
     }
 }

@@ -13,6 +13,10 @@ use crate::year::Year;
 const DUE: [u64; 2] = [1_000_000_000_000, 500_000_000_000];
 /// The least amount that prints as 10.
 const TEN: u64 = 9_950_000_000;
+/// The heading's place.
+const OFF_SITE: usize = 5;
+/// The kind of a found post.
+const FOUND: u8 = 14;
 
 /// Adds such posts for some substances and headings; `close` says whether a close will follow.
 pub fn aim(rng: &mut Rng, year: &mut Year, close: bool) {
@@ -31,8 +35,11 @@ fn aim_at_due(rng: &mut Rng, year: &mut Year, close: bool) {
             _ => 0,
         };
         let (stage, _) = year.ledger.any_holding(rng);
-        if quantity > 0 {
-            year.add(Post::formed((stage, substance), quantity));
+        let holding = (stage, substance);
+        if rng.once_in(2) {
+            add_all(year, exactly(FOUND, holding, quantity));
+        } else if quantity > 0 {
+            year.add(Post::formed(holding, quantity));
         }
     }
 }
@@ -67,7 +74,7 @@ fn reports(year: &Year, close: bool) -> Vec<model::Report> {
     asked.map_or_else(|_| Vec::new(), Result::unwrap_or_default)
 }
 
-/// Forms what is missing to an edge and lets it leave under the heading, so that no holding changes.
+/// Forms what is missing to an edge and lets it leave under the heading, or finds it there, so that no holding changes.
 fn raise(rng: &mut Rng, year: &mut Year, heading: usize, substance: u8, amount: u64) {
     let quantity = missing(rng, amount);
     let Some(stage) = stage_for(rng, &year.site, heading, substance) else {
@@ -76,6 +83,9 @@ fn raise(rng: &mut Rng, year: &mut Year, heading: usize, substance: u8, amount: 
     let holding = (stage, substance);
     if !(1..=MOST_MICROGRAMS).contains(&quantity) {
         return;
+    }
+    if heading == OFF_SITE && rng.once_in(2) {
+        return add_all(year, exactly(FOUND, holding, quantity));
     }
     let leaving = match heading {
         0 => vapour(year.site.numbers[substance as usize], holding, quantity),
@@ -88,9 +98,11 @@ fn raise(rng: &mut Rng, year: &mut Year, heading: usize, substance: u8, amount: 
         return;
     }
     year.add(Post::formed(holding, quantity));
-    for post in leaving {
-        year.add(post);
-    }
+    add_all(year, leaving);
+}
+
+fn add_all(year: &mut Year, posts: Vec<Post>) {
+    posts.into_iter().for_each(|post| year.add(post));
 }
 
 /// From an amount to the next half step, or to a microgram below it.

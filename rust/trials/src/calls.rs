@@ -3,7 +3,7 @@
 use std::fmt::Write;
 use std::ops::AddAssign;
 
-use blocks::record;
+use blocks::{record, BLOCK, BODY, POST};
 use model::{Book, Report};
 
 use crate::case::caught;
@@ -21,6 +21,8 @@ pub struct Counts {
     pub reports: u64,
     /// Calls declined by each number.
     pub declines: [u64; 13],
+    /// The same of calls with a found post in them, those that were taken at 0.
+    pub found: [u64; 13],
 }
 
 impl AddAssign<&Counts> for Counts {
@@ -29,7 +31,8 @@ impl AddAssign<&Counts> for Counts {
         self.posts += other.posts;
         self.blocks += other.blocks;
         self.reports += other.reports;
-        for (count, more) in self.declines.iter_mut().zip(other.declines) {
+        let counts = self.declines.iter_mut().chain(&mut self.found);
+        for (count, more) in counts.zip(other.declines.into_iter().chain(other.found)) {
             *count += more;
         }
     }
@@ -69,14 +72,16 @@ impl List {
     pub fn post(&mut self, bytes: &[u8]) {
         self.counts.posts += 1;
         let ask = |book: &mut Book| book.post(bytes).map(|()| "0".into());
-        self.call(b'P', bytes, "post", ask);
+        let number = self.call(b'P', bytes, "post", ask);
+        self.count_found(is_found(bytes), number);
     }
 
     /// A block.
     pub fn block(&mut self, bytes: &[u8]) {
         self.counts.blocks += 1;
         let ask = |book: &mut Book| book.block(bytes).map(|()| "0".into());
-        self.call(b'B', bytes, "block", ask);
+        let number = self.call(b'B', bytes, "block", ask);
+        self.count_found(has_found(bytes), number);
     }
 
     /// A report of the substance at a place.
@@ -91,24 +96,38 @@ impl List {
         (0..=self.book.substances() as u8).for_each(|place| self.report(place));
     }
 
+    /// Makes a call, and gives the decline's number or 0.
     fn call(
         &mut self,
         tag: u8,
         bytes: &[u8],
         name: &str,
         ask: impl FnOnce(&mut Book) -> Result<String, u8>,
-    ) {
+    ) -> usize {
         record(&mut self.records, tag, bytes);
-        let answer = match caught(|| ask(&mut self.book)) {
-            Ok(Ok(fields)) => fields,
-            Ok(Err(number)) => {
-                self.counts.declines[usize::from(number)] += 1;
-                number.to_string()
-            }
-            Err(words) => format!("the model panicked: {words}"),
+        let (answer, number) = match caught(|| ask(&mut self.book)) {
+            Ok(Ok(fields)) => (fields, 0),
+            Ok(Err(number)) => (number.to_string(), usize::from(number)),
+            Err(words) => (format!("the model panicked: {words}"), 0),
         };
+        self.counts.declines[number] += u64::from(number > 0);
         writeln!(self.lines, "{name} {answer}").expect("a string takes all");
+        number
     }
+
+    fn count_found(&mut self, found: bool, number: usize) {
+        self.counts.found[number] += u64::from(found);
+    }
+}
+
+/// Whether a post is of kind 14.
+fn is_found(post: &[u8]) -> bool {
+    post.first() == Some(&14)
+}
+
+/// Whether one of a block's posts is.
+fn has_found(block: &[u8]) -> bool {
+    block.len() == BLOCK && block[4] == 3 && block[BODY..].chunks_exact(POST).any(is_found)
 }
 
 impl Default for List {

@@ -1,6 +1,8 @@
 //! Faults in a journal, one at a time or two at once.
 
-use blocks::{posts_block, put_sums, renumber, seal, sums, Block, Post, BLOCK, BODY, POST, SUMS};
+use blocks::{
+    posts_block, put_sums, renumber, seal, sums, Block, Holding, Post, BLOCK, BODY, POST, SUMS,
+};
 
 use crate::floats::{edges, within, RANGES, SPECIALS};
 use crate::ledger::{exactly, MOST_GRAMS, MOST_MICROGRAMS};
@@ -11,7 +13,7 @@ use crate::year::Year;
 type Fault = fn(&mut Rng, &mut Vec<Block>);
 
 /// Every fault of the blocks.
-const FAULTS: [Fault; 17] = [
+const FAULTS: [Fault; 18] = [
     flip,
     flip_and_seal,
     byte_and_seal,
@@ -24,6 +26,7 @@ const FAULTS: [Fault; 17] = [
     float,
     no_row,
     great_loss,
+    odd_found,
     late_fault,
     swap,
     double,
@@ -71,7 +74,7 @@ fn flip_and_seal(rng: &mut Rng, blocks: &mut Vec<Block>) {
 fn byte_and_seal(rng: &mut Rng, blocks: &mut Vec<Block>) {
     let block = any_block(rng, blocks);
     let any = rng.word() as u8;
-    block[rng.place(SUMS)] = rng.pick(&[0, 1, 2, 3, 8, 9, 12, 13, 127, 128, 255, any]);
+    block[rng.place(SUMS)] = rng.pick(&[0, 1, 2, 3, 8, 9, 12, 13, 14, 15, 127, 128, 255, any]);
     seal(block);
 }
 
@@ -118,7 +121,7 @@ fn field(rng: &mut Rng, blocks: &mut Vec<Block>) {
     };
     let post = &mut blocks[block][at..at + POST];
     match rng.below(7) {
-        0 => post[0] = rng.below(16) as u8,
+        0 => post[0] = rng.below(17) as u8,
         1 => post[1] = rng.below(14) as u8,
         2 => post[2] = rng.below(10) as u8,
         3 => post[3] = rng.below(10) as u8,
@@ -199,10 +202,36 @@ fn make_vapour(rng: &mut Rng, blocks: &mut [Block], form: u8, floats: [u64; 4]) 
     let Some((block, at)) = any_post(rng, blocks) else {
         return;
     };
-    let holding = (blocks[block][at + 2], blocks[block][at + 3]);
-    let post = Post::vapour(form, holding, floats);
-    blocks[block][at..at + POST].copy_from_slice(&post.bytes());
-    seal(&mut blocks[block]);
+    let post = Post::vapour(form, holding(&blocks[block], at), floats);
+    put_post(&mut blocks[block], at, post);
+}
+
+/// Makes a post a found one that is right but, most likely, for one field.
+fn odd_found(rng: &mut Rng, blocks: &mut Vec<Block>) {
+    let Some((block, at)) = any_post(rng, blocks) else {
+        return;
+    };
+    let mut post = Post::found(holding(&blocks[block], at), 1, 1);
+    match rng.below(8) {
+        0 => post.material = rng.pick(&[1, 2, 12, 255]),
+        1 => post.stage = rng.below(10) as u8,
+        2 => post.substance = rng.below(10) as u8,
+        3 | 4 => post.content = content(rng),
+        5 | 6 => post.quantity = quantity(rng),
+        _ => post.floats[rng.place(4)] = rng.pick(&SPECIALS),
+    }
+    put_post(&mut blocks[block], at, post);
+}
+
+/// The stage and substance of the post at an offset.
+fn holding(block: &Block, at: usize) -> Holding {
+    (block[at + 2], block[at + 3])
+}
+
+/// Puts a post at an offset, and mends the check sums.
+fn put_post(block: &mut Block, at: usize, post: Post) {
+    block[at..at + POST].copy_from_slice(&post.bytes());
+    seal(block);
 }
 
 /// Lets a block's last post ask for all that a post may, after its others were in balance.

@@ -2,6 +2,8 @@
 
 use blocks::{journal, plan, record, set_up, with_floats, xylene, Block, Post, BODY, POST, SUMS};
 
+use crate::ledger::MOST_GRAMS;
+use crate::site::WHOLE;
 use crate::writes::{add_end, add_post, add_set_up, of_journal, MALFORMED};
 
 /// A list, and what is written of it with room enough.
@@ -86,6 +88,7 @@ pub fn all() -> Vec<Fixed> {
         kinds_and_lengths(),
         layouts(),
         floats(),
+        vec![found()],
         malformed(),
     ]
     .into_iter()
@@ -278,6 +281,51 @@ fn floats() -> Vec<Fixed> {
         2,
         &[3, 1],
     )]
+}
+
+/// A post of kind 14 at the xylene plant.
+fn found_post(content: u32, grams: u64) -> Post {
+    Post::found((0, 0), content, grams)
+}
+
+/// Posts of kind 14 that break a limit each, and one of kind 15.
+fn beyond_found() -> [Post; 8] {
+    let one = found_post(1, 1);
+    [
+        found_post(0, 1),
+        found_post(WHOLE + 1, 1),
+        found_post(1, 0),
+        found_post(1, MOST_GRAMS + 1),
+        Post { stage: 1, ..one },
+        Post {
+            substance: 1,
+            ..one
+        },
+        Post { material: 1, ..one },
+        Post { kind: 15, ..one },
+    ]
+}
+
+/// Document 02 (b): posts of kind 14 at both ends of their limits are taken, and 6 and 7 of those beyond.
+fn found() -> Fixed {
+    let blocks = xylene::site().blocks();
+    let ends = [(1, 1), (WHOLE, 1), (1, MOST_GRAMS), (WHOLE, MOST_GRAMS)];
+    let taken = ends.map(|(content, grams)| found_post(content, grams).bytes());
+    let beyond = beyond_found().map(|post| post.bytes());
+    let odd = with_floats(taken[0], [0, 0, 1, 0]);
+    let mut list = Vec::new();
+    blocks.iter().for_each(|block| add_set_up(&mut list, block));
+    for post in taken.iter().chain(&beyond).chain([&odd]).chain(&taken) {
+        add_post(&mut list, post);
+    }
+    let first = blocks.len() + taken.len();
+    let sixes = (first..).zip([6; 8]);
+    Fixed {
+        name: "found posts and their limits",
+        list,
+        refused: sixes.chain([(first + beyond.len(), 7)]).collect(),
+        journal: journal(blocks, &[taken, taken].concat(), &[8]),
+    }
 }
 
 /// A malformed record ends the reading: what is behind it isn't written.

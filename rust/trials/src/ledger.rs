@@ -69,11 +69,12 @@ impl Ledger {
 
     /// A post of any kind but the close that a book takes.
     pub fn any_post(&self, rng: &mut Rng) -> Post {
-        let post = match rng.below(20) {
+        let post = match rng.below(22) {
             0..=2 => None,
             3..=6 => self.issued(rng),
             7 => Some(self.formed(rng)),
-            8..=16 => self.left(rng),
+            8 | 9 => Some(self.found(rng)),
+            10..=18 => self.left(rng),
             _ => self.vapour(rng),
         };
         post.unwrap_or_else(|| self.entered(rng))
@@ -105,15 +106,21 @@ impl Ledger {
     pub fn left(&self, rng: &mut Rng) -> Option<Post> {
         let holding = self.filled(rng)?;
         let held = self.held(holding);
-        let content = match rng.below(4) {
-            0 => WHOLE as u64,
-            1 => rng.size(WHOLE as u64),
-            _ => rng.range(1, WHOLE as u64),
-        };
-        let content = content.min(held);
+        let content = any_content(rng).min(held);
         let quantity = part(rng, (held / content).min(MOST_GRAMS))?;
         let kind = rng.range(5, 11) as u8;
         Some(Post::left(kind, holding, content as u32, quantity))
+    }
+
+    /// Kind 14, whatever is held.
+    pub fn found(&self, rng: &mut Rng) -> Post {
+        let content = any_content(rng) as u32;
+        let quantity = match rng.below(16) {
+            0 => 1,
+            1 => MOST_GRAMS,
+            _ => rng.size(self.most_grams),
+        };
+        Post::found(self.any_holding(rng), content, quantity)
     }
 
     /// Kind 12, with less and less of it until the holding has it.
@@ -162,7 +169,18 @@ impl Ledger {
     }
 }
 
-/// Posts of kind 5 to 11 that take exactly so many micrograms, at most 2×10^15.
+/// A content in ppm: any, its ends, and those at which a material's is counted.
+fn any_content(rng: &mut Rng) -> u64 {
+    match rng.below(8) {
+        0 => 1,
+        1 => WHOLE as u64,
+        2 => rng.pick(&[999, 1_000, 9_999, 10_000]),
+        3 | 4 => rng.size(WHOLE as u64),
+        _ => rng.range(1, WHOLE as u64),
+    }
+}
+
+/// Posts of kind 5 to 11 or 14 of exactly so many micrograms, at most 2×10^15.
 pub fn exactly(kind: u8, holding: Holding, micrograms: u64) -> Vec<Post> {
     let whole = WHOLE as u64;
     let parts = [(WHOLE, micrograms / whole), (1, micrograms % whole)];

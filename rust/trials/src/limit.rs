@@ -12,7 +12,11 @@ pub const ONE_SHORT: usize = 3_999;
 /// The 4,000th post, or two, and what comes behind.
 pub fn last_posts(rng: &mut Rng, year: &Year) -> Vec<Post> {
     let count = rng.range(1, 3);
-    let mut posts = vec![year.ledger.entered(rng)];
+    let first = match rng.once_in(2) {
+        true => year.ledger.found(rng),
+        false => year.ledger.entered(rng),
+    };
+    let mut posts = vec![first];
     posts.extend((0..count).map(|_| any_last(rng, year)));
     posts
 }
@@ -22,7 +26,7 @@ pub fn any_last(rng: &mut Rng, year: &Year) -> Post {
     let holding = year.ledger.any_holding(rng);
     let all = Post::left(5, holding, 1_000_000, MOST_GRAMS);
     let mut close = Post::CLOSE;
-    match rng.below(10) {
+    match rng.below(14) {
         0 | 1 => {}
         2 => close.quantity = 1,
         3 => close.floats[0] = 1,
@@ -31,6 +35,13 @@ pub fn any_last(rng: &mut Rng, year: &Year) -> Post {
         6 => return Post::vapour(1, holding, [14f64.to_bits(), 0, 0, 0]),
         7 => return Post::vapour(3, holding, [1e9f64.to_bits(); 4]),
         8 => return all,
+        9 | 10 => return year.ledger.found(rng),
+        11 => return Post::found(holding, 1, MOST_GRAMS + 1),
+        12 => {
+            let mut odd = Post::found(holding, 1, 1);
+            odd.floats[3] = 1;
+            return odd;
+        }
         _ => return year.ledger.entered(rng),
     }
     close

@@ -1,6 +1,6 @@
 //! Lists of calls, good and faulty, with reports between them.
 
-use blocks::{block, frame, posts_block, Block, Post, BLOCK, BODY, POST};
+use blocks::{block, frame, posts_block, Block, Post, BLOCK, BODY, MOST_POSTS, POST};
 
 use crate::calls::List;
 use crate::damage::{damaged, fault};
@@ -86,9 +86,9 @@ fn perhaps_reports(rng: &mut Rng, list: &mut List) {
     }
 }
 
-/// Perhaps a call that is most likely refused, made of a block that isn't, and reports behind it.
+/// Perhaps a call that is most likely refused, made of a block that isn't, or a found post, and reports behind it.
 fn perhaps_faulty(rng: &mut Rng, list: &mut List, year: &Year, block: &Block) {
-    match rng.below(12) {
+    match rng.below(14) {
         0 | 1 => list.block(&faulty(rng, block)),
         2 | 3 => list.post(&faulty_post(rng, block)),
         4 => {
@@ -101,6 +101,8 @@ fn perhaps_faulty(rng: &mut Rng, list: &mut List, year: &Year, block: &Block) {
         }
         6 => list.post(&too_much(rng, year).bytes()),
         7 => list.block(&without_body(rng, list.next_number())),
+        8 => list.post(&year.ledger.found(rng).bytes()),
+        9 => list.block(&found_and_too_much(rng, list.next_number(), year)),
         _ => return,
     }
     if rng.once_in(2) {
@@ -137,6 +139,14 @@ fn too_much(rng: &mut Rng, year: &Year) -> Post {
         3 | 4 => Post::issued(0, holding.0, MOST_GRAMS),
         kind => Post::left(kind, holding, WHOLE, MOST_GRAMS),
     }
+}
+
+/// A block of found posts with a last one that is most likely refused, so that none of them may stand.
+fn found_and_too_much(rng: &mut Rng, number: u16, year: &Year) -> Block {
+    let count = rng.range(1, MOST_POSTS as u64 - 1);
+    let mut posts: Vec<Post> = (0..count).map(|_| year.ledger.found(rng)).collect();
+    posts.push(too_much(rng, year));
+    posts_block(number, &posts)
 }
 
 /// A block of any kind with nothing in its body.

@@ -241,7 +241,10 @@ fn odd_post(rng: &mut Rng, blocks: &[Block]) -> Vec<u8> {
 fn odd_floats(rng: &mut Rng) -> Post {
     let form = rng.range(1, 3) as u8;
     if rng.once_in(3) {
-        let mut post = Post::stock(form.min(2), 0, 1);
+        let mut post = match form {
+            3 => Post::found((0, 0), 1, 1),
+            kind => Post::stock(kind, 0, 1),
+        };
         post.floats[rng.place(4)] = rng.pick(&SPECIALS);
         return post;
     }

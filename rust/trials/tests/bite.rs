@@ -10,8 +10,10 @@ use trials::year::Year;
 
 /// A slip of the trade.
 enum Slip {
-    /// The right model answers on this other year as the slip does on the year.
+    /// The right model answers on this other year as the slip does on the year; where it refuses, nothing shows.
     Edit(fn(&mut Year)),
+    /// The same, where a refusal shows the slip too.
+    Refuse(fn(&mut Year)),
     /// Whether the slip prints something else than the library's lines.
     Print(fn(&Year, &[Line]) -> bool),
 }
@@ -107,6 +109,40 @@ fn microgram_to_soil(year: &mut Year) {
     });
 }
 
+/// What is found goes to landfill on site.
+fn found_to_landfill(year: &mut Year) {
+    replace(year, 14, |post| {
+        let holding = (post.stage, post.substance);
+        let amount = post.quantity * post.content as u64;
+        let mut posts = vec![Post::formed(holding, amount)];
+        posts.extend(exactly(7, holding, amount));
+        posts
+    });
+}
+
+/// What is found is held until the close.
+fn found_and_held(year: &mut Year) {
+    replace(year, 14, |post| {
+        let amount = post.quantity * post.content as u64;
+        vec![Post::formed((post.stage, post.substance), amount)]
+    });
+}
+
+/// What is found leaves the holding.
+fn found_from_the_holding(year: &mut Year) {
+    replace(year, 14, |post| vec![Post { kind: 6, ..*post }]);
+}
+
+/// A stated content is cut as a material's is.
+fn found_and_cut(year: &mut Year) {
+    let classes = year.site.classes.clone();
+    replace(year, 14, |post| {
+        let class = classes[post.substance as usize];
+        let counted = model::counted(class, post.content) != Ok(0);
+        counted.then_some(*post).into_iter().collect()
+    });
+}
+
 /// Puts other posts in place of each of a kind.
 fn replace(year: &mut Year, kind: u8, mut other: impl FnMut(&Post) -> Vec<Post>) {
     let posts = year.posts.iter();
@@ -176,12 +212,24 @@ fn rounded_handled(year: &Year, lines: &[Line]) -> bool {
     lines.iter().zip(&year.site.classes).any(reaches)
 }
 
+/// What is found isn't handled, so that the threshold is met later.
+fn found_not_handled(year: &Year, lines: &[Line]) -> bool {
+    let mut handled: Vec<u64> = lines.iter().map(|line| line.handled).collect();
+    for post in year.posts.iter().filter(|post| post.kind == 14) {
+        handled[post.substance as usize] -= post.quantity * post.content as u64;
+    }
+    let due = handled.iter().zip(&year.site.classes);
+    let due = due.map(|(handled, class)| model::due(*class, *handled));
+    lines.iter().zip(due).any(|(line, due)| due != Ok(line.due))
+}
+
 /// Each stage's figures are added, in place of its amounts, and the sum is rounded again.
 fn rounded_by_stage(year: &Year, lines: &[Line]) -> bool {
     let mut sums = vec![[0; 6]; lines.len()];
     for stage in 0..year.site.stages.len() {
         let mut alone = year.clone();
-        let of_stage = |post: &Post| !(3..=12).contains(&post.kind) || post.stage as usize == stage;
+        let of_stage =
+            |post: &Post| !matches!(post.kind, 3..=12 | 14) || post.stage as usize == stage;
         alone.posts.retain(of_stage);
         alone.sizes = tens(alone.posts.len());
         for (sum, report) in sums.iter_mut().zip(reports(&alone)) {
@@ -202,16 +250,22 @@ fn ten_with_a_decimal(year: &Year, lines: &[Line]) -> bool {
         .any(|(line, report)| line.figures.iter().zip(report.headings).any(rounded_up))
 }
 
-/// Whether a slip shows in a year; a year that is refused with the slip doesn't count.
+/// What the model prints of a year with a slip.
+fn slipped(edit: fn(&mut Year), year: &Year) -> Vec<u8> {
+    let mut other = year.clone();
+    edit(&mut other);
+    model::filing(other.blocks().as_flattened())
+}
+
+/// Whether a slip shows in a year.
 fn shows(slip: &Slip, year: &Year) -> bool {
     let text = text_of(year.blocks().as_flattened());
     match slip {
         Slip::Edit(edit) => {
-            let mut slipped = year.clone();
-            edit(&mut slipped);
-            let other = model::filing(slipped.blocks().as_flattened());
+            let other = slipped(*edit, year);
             !other.starts_with(b"refused") && other != text
         }
+        Slip::Refuse(edit) => slipped(*edit, year) != text,
         Slip::Print(differs) => differs(year, &lines(&text)),
     }
 }
@@ -228,6 +282,15 @@ fn slips_show_in_the_generated_years() {
         ("treated vapour", Slip::Edit(treated_vapour), 40),
         ("lost shipment", Slip::Edit(lost_shipment), 20),
         ("microgram to soil", Slip::Edit(microgram_to_soil), 10),
+        ("found to landfill", Slip::Edit(found_to_landfill), 40),
+        ("found and held", Slip::Edit(found_and_held), 40),
+        (
+            "found from the holding",
+            Slip::Refuse(found_from_the_holding),
+            80,
+        ),
+        ("found and cut", Slip::Edit(found_and_cut), 40),
+        ("found not handled", Slip::Print(found_not_handled), 80),
         ("other class", Slip::Print(other_class), 80),
         ("rounding by stage", Slip::Print(rounded_by_stage), 80),
         ("rounding handled first", Slip::Print(rounded_handled), 40),

@@ -144,7 +144,8 @@ fn full_years(runs: &mut Runs) {
         let site = site::any(&mut rng);
         let mut year = Year::open(&mut rng, site, MOST);
         let next = year.ledger.entered(&mut rng);
-        for last in [next, Post::CLOSE] {
+        let found = year.ledger.found(&mut rng);
+        for last in [next, found, Post::CLOSE] {
             for size in [10, 1] {
                 year.sizes = vec![size; MOST / size];
                 let mut blocks = year.blocks();

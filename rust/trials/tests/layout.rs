@@ -1,7 +1,5 @@
 //! Each rule of the layout broken alone, with the number that document 01 gives; two rules at once; and every byte.
 
-use std::ops::RangeInclusive;
-
 use blocks::{
     block, frame, posts_block, put_sums, seal, sums, Block, Pair, Post, Site, Stage, BLOCK, BODY,
     MODULUS, POST, SUMS,
@@ -9,6 +7,7 @@ use blocks::{
 use trials::floats::{edges, RANGES, SPECIALS};
 use trials::ledger::{MOST_GRAMS, MOST_MICROGRAMS};
 use trials::rng::Rng;
+use trials::site::WHOLE;
 use trials::trial::{cases, Trial};
 
 /// How a block is broken.
@@ -77,7 +76,7 @@ fn site() -> Site {
     }
 }
 
-/// One post of each kind in order, each taken by a book of the site.
+/// One post of each kind in order, the close last, each taken by a book of the site.
 fn posts() -> Vec<Post> {
     let holding = (1, 1);
     let mut posts = vec![
@@ -88,14 +87,19 @@ fn posts() -> Vec<Post> {
     ];
     posts.extend((5..=11).map(|kind| Post::left(kind, holding, 600_000, 100_000)));
     posts.push(Post::vapour(2, holding, USUAL[1].map(f64::to_bits)));
+    posts.push(Post::found((0, 2), 600_000, 100_000));
     posts.push(Post::CLOSE);
     posts
 }
 
-/// The site's three blocks, then ten posts, then three.
+/// The site's three blocks, then ten posts, then four.
 fn journal() -> Vec<Block> {
+    journal_of(&posts())
+}
+
+/// The same of other posts.
+fn journal_of(posts: &[Post]) -> Vec<Block> {
     let mut blocks = site().blocks();
-    let posts = posts();
     blocks.push(posts_block(3, &posts[..10]));
     blocks.push(posts_block(4, &posts[10..]));
     blocks
@@ -218,39 +222,39 @@ fn count_rules() -> Vec<Rule> {
         rule("nine posts and a tenth behind", 3, 5, [9], 6),
         rule("eleven posts", 3, 5, [11], 6),
         rule("behind the last post", 3, BODY + 10 * POST, [1], 6),
-        rule("behind the third post", 4, BODY + 3 * POST, [1], 6),
-        rule("a fourth post after the close", 4, 5, [4], 5),
+        rule("behind the fourth post", 4, BODY + 4 * POST, [1], 6),
+        rule("a fifth post after the close", 4, 5, [5], 5),
     ]
 }
 
 /// A material, stage, substance, content and quantity that a kind of post doesn't take, each at its offset.
-fn wrong_fields(kind: usize) -> [(&'static str, usize, Vec<u8>); 6] {
-    let used =
-        |kinds: RangeInclusive<usize>, beyond: u8| if kinds.contains(&kind) { beyond } else { 1 };
-    let material = if kind == 12 { 4 } else { used(1..=3, 2) };
-    let content: u32 = if (5..=11).contains(&kind) {
-        1_000_001
-    } else {
-        1
-    };
+fn wrong_fields(kind: u8) -> [(&'static str, usize, Vec<u8>); 6] {
+    let used = |uses: bool, beyond: u8| if uses { beyond } else { 1 };
+    let material = if kind == 12 { 4 } else { used(kind <= 3, 2) };
+    let content: u32 = if is_part(kind) { 1_000_001 } else { 1 };
     let quantity: u64 = match kind {
         4 => MOST_MICROGRAMS + 1,
         12 | 13 => 1,
         _ => MOST_GRAMS + 1,
     };
     [
-        ("kind", 0, vec![if kind == 13 { 14 } else { 0 }]),
+        ("kind", 0, vec![if kind < 13 { 0 } else { kind + 2 }]),
         ("material", 1, vec![material]),
-        ("stage", 2, vec![used(3..=12, 2)]),
-        ("substance", 3, vec![used(4..=12, 3)]),
+        ("stage", 2, vec![used(kind >= 3 && kind != 13, 2)]),
+        ("substance", 3, vec![used(kind >= 4 && kind != 13, 3)]),
         ("content", 4, content.to_le_bytes().to_vec()),
         ("quantity", 8, quantity.to_le_bytes().to_vec()),
     ]
 }
 
-/// Every field of the post at a place, whose kind is one more, with a value that the kind doesn't take.
+/// Whether a kind uses stage, substance, content and grams.
+fn is_part(kind: u8) -> bool {
+    matches!(kind, 5..=11 | 14)
+}
+
+/// Every field of the post at a place, with a value that its kind doesn't take.
 fn rules_of_post(place: usize) -> Vec<Rule> {
-    let kind = place + 1;
+    let kind = posts()[place].kind;
     let (block, at) = (3 + place / 10, BODY + POST * (place % 10));
     let field = |name: &str, offset: usize, bytes: &[u8], number| {
         let name = format!("{name} of kind {kind}");
@@ -262,17 +266,17 @@ fn rules_of_post(place: usize) -> Vec<Rule> {
         .map(|(name, offset, bytes)| field(name, *offset, bytes, 6))
         .collect();
     rules.extend((0..4).map(|place| field("float", 16 + 8 * place, &[255; 8], 7)));
-    if (5..=11).contains(&kind) {
+    if is_part(kind) {
         rules.push(field("no content", 4, &[0; 4], 6));
     }
-    if kind < 12 {
+    if kind < 12 || kind == 14 {
         rules.push(field("no quantity", 8, &[0; 8], 6));
     }
     rules
 }
 
 fn post_rules() -> Vec<Rule> {
-    (0..13).flat_map(rules_of_post).collect()
+    (0..posts().len()).flat_map(rules_of_post).collect()
 }
 
 /// Faults of vapour posts and of balance.
@@ -416,8 +420,7 @@ fn vapour_floats() {
                 posts[11].material = form;
                 posts[11].floats = USUAL[form as usize - 1].map(f64::to_bits);
                 posts[11].floats[place] = bits;
-                let mut blocks = journal();
-                blocks[4] = posts_block(4, &posts[10..]);
+                let blocks = journal_of(&posts);
                 let refused = trial.give_blocks(&blocks).refused;
                 let within = (range.0..=range.1).contains(&f64::from_bits(bits));
                 if (refused == Some((4, 7))) == within {
@@ -433,16 +436,56 @@ fn vapour_floats() {
 #[test]
 fn unused_floats() {
     let mut trial = Trial::new("unused floats");
-    for place in (0..13).filter(|&place| place != 11) {
+    for place in (0..posts().len()).filter(|&place| place != 11) {
         for (float, bits) in (0..4).flat_map(|float| SPECIALS.map(|bits| (float, bits))) {
             let mut posts = posts();
             posts[place].floats[float] = bits;
-            let mut blocks = journal();
-            blocks[3] = posts_block(3, &posts[..10]);
-            blocks[4] = posts_block(4, &posts[10..]);
+            let blocks = journal_of(&posts);
             let refused = (bits << 1 != 0).then_some((3 + place as u64 / 10, 7));
-            let what = format!("kind {}, float {float}, {bits:016x}", place + 1);
+            let what = format!("kind {}, float {float}, {bits:016x}", posts[place].kind);
             trial.expect(blocks.as_flattened(), refused, &what);
+        }
+    }
+    trial.finish();
+}
+
+/// Every kind with the fields of a part: those that a book has take it where it is held, and 14 where nothing is.
+#[test]
+fn kinds_of_a_part() {
+    let mut trial = Trial::new("kinds of a part");
+    for kind in 0..=255 {
+        for (holding, held) in [((1, 1), true), ((0, 2), false)] {
+            let mut posts = posts();
+            posts[12] = Post::left(kind, holding, 1, 1);
+            let number = match kind {
+                14 => None,
+                5..=11 => (!held).then_some(11),
+                _ => Some(6),
+            };
+            let refused = number.map(|number| (4, number));
+            let what = format!("kind {kind} of {holding:?}");
+            trial.expect(journal_of(&posts).as_flattened(), refused, &what);
+        }
+    }
+    trial.finish();
+}
+
+/// Both ends of a found post's content and grams, and one beyond each, in each place of the site.
+#[test]
+fn found_limits() {
+    let mut trial = Trial::new("found limits");
+    let holdings = (0..3).flat_map(|stage| (0..4).map(move |substance| (stage, substance)));
+    for holding in holdings {
+        for content in [0, 1, WHOLE, WHOLE + 1] {
+            for grams in [0, 1, MOST_GRAMS, MOST_GRAMS + 1] {
+                let mut posts = posts();
+                posts[12] = Post::found(holding, content, grams);
+                let of_site = holding.0 < 2 && holding.1 < 3;
+                let in_limits = (1..=WHOLE).contains(&content) && (1..=MOST_GRAMS).contains(&grams);
+                let refused = (!of_site || !in_limits).then_some((4, 6));
+                let what = format!("{content} ppm of {grams} g found at {holding:?}");
+                trial.expect(journal_of(&posts).as_flattened(), refused, &what);
+            }
         }
     }
     trial.finish();

@@ -14,6 +14,9 @@ const LISTS: u64 = 200;
 const REPORTS: u64 = 3_000;
 /// How often each of the declines 1 to 12 must have been met.
 const MET: u64 = 10;
+/// The answers that calls with a found post must have had as often: taken, and the declines of such a post or of a later
+/// one of its block.
+const OF_FOUND: [usize; 6] = [0, 5, 6, 7, 10, 11];
 
 /// A list by the numbers of its case.
 type Maker = fn(&mut Rng) -> List;
@@ -50,14 +53,27 @@ fn enough(counts: &Counts) {
         blocks,
         reports,
         declines: numbers,
+        found,
     } = counts;
     say(&format!(
         "replay: {lists} lists of {posts} posts, {blocks} blocks and {reports} reports; declined{}",
         declines(numbers)
     ));
+    say(&format!(
+        "replay: {} calls with found posts taken; declined{}",
+        found[0],
+        declines(found)
+    ));
     assert!(*lists >= LISTS, "only {lists} lists were made");
     assert!(*reports >= REPORTS, "only {reports} reports were made");
     for (number, met) in numbers.iter().enumerate().skip(1) {
         assert!(*met >= MET, "decline {number} was met only {met} times");
+    }
+    for number in OF_FOUND {
+        let met = found[number];
+        assert!(
+            met >= MET,
+            "found posts were answered by {number} only {met} times"
+        );
     }
 }

@@ -97,6 +97,15 @@ fn great_year(rates: [u32; 4], spread: usize, leaving: bool) -> Year {
     year
 }
 
+/// The most that a year can find, of the first `spread` substances.
+fn greatest_found(rates: [u32; 4], spread: usize) -> Year {
+    let mut year = great_year(rates, spread, false);
+    for post in year.posts.iter_mut().filter(|post| post.kind == 4) {
+        *post = Post::found((post.stage, post.substance), 1_000_000, MOST_GRAMS);
+    }
+    year
+}
+
 #[test]
 fn the_greatest_years() {
     let mut trial = Trial::new("greatest years");
@@ -110,6 +119,10 @@ fn the_greatest_years() {
         for (spread, leaving) in [(1, false), (1, true), (8, false), (8, true)] {
             let blocks = great_year(rates, spread, leaving).blocks();
             trial.expect(blocks.as_flattened(), None, "a great year");
+        }
+        for spread in [1, 8] {
+            let blocks = greatest_found(rates, spread).blocks();
+            trial.expect(blocks.as_flattened(), None, "a great year of found posts");
         }
     }
     trial.finish();

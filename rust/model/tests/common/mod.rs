@@ -47,6 +47,11 @@ pub fn leaves(kind: u8, stage: u8, substance: u8, content: u32, grams: u64) -> P
     blocks::Post::left(kind, (stage, substance), content, grams).bytes()
 }
 
+/// Kind 14.
+pub fn found(stage: u8, substance: u8, content: u32, grams: u64) -> Post {
+    blocks::Post::found((stage, substance), content, grams).bytes()
+}
+
 pub fn close() -> Post {
     blocks::Post::CLOSE.bytes()
 }
