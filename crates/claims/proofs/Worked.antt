@@ -6,7 +6,7 @@ use lib.Ieee as ieee
 use lib.ListN.{replicate}
 use Rattle.amounts.specs.Content.{countedOf}
 use Rattle.amounts.specs.Decline.{taken, declined, valueOr, short}
-use Rattle.layout.specs.Bytes.{le, padded}
+use Rattle.layout.specs.Bytes.{le, padded, placed}
 use Rattle.layout.specs.Each.{sumTo, allTo, listTo, putTo}
 use Rattle.plant.specs.Stage.{ratesAt}
 use Rattle.post.specs.Fields.{postAt}
@@ -19,7 +19,6 @@ use Rattle.book.specs.Site.{freshBook}
 use Rattle.book.specs.declared.site.Book.{Book}
 use Rattle.book.specs.Whole.{partsTo, partsIn, refused, readAll}
 use Rattle.writer.specs.Calls.{Call, setUp, post, end, accepted}
-use Rattle.writer.specs.Frame.{placed}
 use Rattle.writer.specs.Page as page
 use Rattle.writer.specs.Page.{freshPage}
 use Rattle.claims.specs.Singles.{allTaken}

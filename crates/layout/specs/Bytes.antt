@@ -1,6 +1,6 @@
 -- Stored numbers and zero places (document 01, "Amounts": "Stored numbers are little-endian").
 use Prim.Native.Nat.{ℕ, zero, suc, _+_, _-_, _*_, _/_, _%_}
-use mathlib.Core.Bool.{Bool, _&&_}
+use mathlib.Core.Bool.{Bool, _&&_, cond}
 use mathlib.Core.List.{List, [], _∷_, _++_}
 use lib.Dec.{eqb, leb}
 use lib.ListN.{length, getD, take, drop, replicate}
@@ -35,3 +35,12 @@ padded n s = s ++ replicate (n - length s) 0
 
 abbrev pub within : ℕ → ℕ → ℕ → Bool
 within low high n = leb low n && leb n high
+
+-- bytes written at a place of a buffer, and all else as it was
+unfoldable pub written : List ℕ → ℕ → List ℕ → List ℕ
+written l at s = take at l ++ s ++ drop (at + length s) l
+
+-- the same where they fit, and else the buffer as it was throughout
+unfoldable pub placed : List ℕ → ℕ → List ℕ → List ℕ
+unfolding written
+placed l at s = cond (leb (at + length s) (length l)) (written l at s) l

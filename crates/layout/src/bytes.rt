@@ -2,7 +2,7 @@
 ghost use mathlib.Core.Path.{_≡_};
 ghost use Prim.Native.Nat.{min, _<_};
 ghost use lib.ListN.{drop, getD};
-ghost use Rattle.layout.specs.Bytes.{le, part, within, allZero};
+ghost use Rattle.layout.specs.Bytes.{le, part, within, allZero, placed};
 
 fn wide(x: u8) -> u16
     ensures { λ r. ⌜ (r ≡ x) × (r < 256) ⌝ }
@@ -102,4 +102,21 @@ pub fn is_within(low: u8, high: u8, n: u8) -> bool
         return false;
     }
     n <= high
+}
+
+// The bytes at a place of the buffer, where they fit; all else stays.
+pub fn put(buffer: &mut [u8], at: usize, s: &[u8])
+    ensures { λ _. ⌜ now (buffer .exit) ≡ placed (now (buffer .entry)) at (now (s .entry)) ⌝ }
+{
+    if s.len() > buffer.len() {
+        return;
+    }
+    if at > buffer.len() - s.len() {
+        return;
+    }
+    let mut i = 0;
+    while i < s.len() {
+        buffer[at + i] = s[i];
+        i += 1;
+    }
 }

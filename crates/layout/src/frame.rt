@@ -1,10 +1,10 @@
 // A block's frame: its tag, its check sums, its kind and its number.
 ghost use mathlib.Core.Path.{_≡_};
-ghost use Prim.Native.Nat.{_+_, _<_};
+ghost use Prim.Native.Nat.{_+_, _/_, _%_, _<_};
 ghost use lib.IntN.{pos};
 ghost use Rattle.amounts.specs.Decline.{checked};
 ghost use Rattle.layout.specs.Verdict.{verdictOf};
-ghost use Rattle.layout.specs.Frame.{hasTag, sumsOf, frameChecks};
+ghost use Rattle.layout.specs.Frame.{hasTag, sumsOf, bodyOf, blockOf, frameChecks};
 use crate::bytes;
 use crate::verdict::Verdict;
 use crate::verdict::row;
@@ -89,4 +89,43 @@ pub fn check_frame(number: u32, s: &[u8]) -> Verdict
         decline::CHECK_SUM,
         weighted,
     )
+}
+
+fn low(x: u16) -> u8
+    ensures { λ r. ⌜ r ≡ x % 256 ⌝ }
+{
+    (x % 256) as u8
+}
+
+fn high(x: u16) -> u8
+    ensures { λ r. ⌜ r ≡ x / 256 ⌝ }
+{
+    (x / 256) as u8
+}
+
+// The block of a kind, a count and a number over the body that it holds: the tag and the head before it, the check sums behind it.
+pub fn framed(block: [u8; 512], kind: u8, count: u8, number: u16) -> [u8; 512]
+    ensures { λ r. ⌜ r ≡ blockOf kind count number (bodyOf block) ⌝ }
+{
+    let mut out = block;
+    let head = [
+        b'P',
+        b'R',
+        b'T',
+        b'R',
+        kind,
+        count,
+        low(number),
+        high(number),
+    ];
+    bytes::put(&mut out, 0, &head);
+    let sums = check_sums(&out);
+    let tail = [
+        low(sums.plain),
+        high(sums.plain),
+        low(sums.weighted),
+        high(sums.weighted),
+    ];
+    bytes::put(&mut out, 508, &tail);
+    out
 }

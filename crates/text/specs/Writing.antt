@@ -2,15 +2,12 @@
 use Prim.Native.Nat.{ℕ, _+_, _≤_}
 use mathlib.Core.Path.{_≡_}
 use mathlib.Core.Bool.{cond}
-use mathlib.Core.List.{List, _++_}
+use mathlib.Core.List.{List}
 use lib.Dec.{leb}
-use lib.ListN.{length, take, drop}
+use lib.ListN.{length}
+use Rattle.layout.specs.Bytes.{written}
 use Rattle.text.specs.declared.writing.Written.{Written}
 use Rattle.text.specs.declared.writing.Written.the-variants.{At, NoRoom}
-
--- the buffer with the text at the place, and all else as it was
-unfoldable pub written : List ℕ → ℕ → List ℕ → List ℕ
-written l at text = take at l ++ text ++ drop (at + length text) l
 
 -- the text ends within the buffer
 pub record Room (l : List ℕ) (at : ℕ) (text : List ℕ) : Type 0 where

@@ -1,6 +1,7 @@
 // Bytes at a place of a lent buffer.
 ghost use mathlib.Core.List.{[], _∷_};
 ghost use Rattle.text.specs.Writing.{Room, Puts};
+use layout::bytes;
 
 // The place after the text, or that the buffer has too little room.
 pub enum Written {
@@ -20,10 +21,6 @@ pub(crate) fn put_bytes(out: &mut [u8], at: usize, text: &[u8]) -> usize
     requires { ⌜ Room (now out) at (now text) ⌝ }
     ensures { λ r. ⌜ Puts (now (out .entry)) at (now (text .entry)) (now (out .exit)) r ⌝ }
 {
-    let mut i = 0;
-    while i < text.len() {
-        out[at + i] = text[i];
-        i += 1;
-    }
-    at + i
+    bytes::put(out, at, text);
+    at + text.len()
 }

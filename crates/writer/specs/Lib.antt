@@ -1,4 +1,3 @@
-pub mod Frame
 pub mod Tally
 pub mod Page
 pub mod Writer

@@ -11,7 +11,7 @@ use Rattle.layout.specs.Frame.{bodyOf, blockOf}
 use Rattle.layout.specs.Posts.{postSize}
 use Rattle.layout.specs.Verdict.{verdictOf}
 use Rattle.layout.specs.declared.verdict.Verdict.{Verdict}
-use Rattle.writer.specs.Frame.{placed}
+use Rattle.layout.specs.Bytes.{placed}
 use Rattle.writer.specs.Tally as tally
 use Rattle.writer.specs.Tally.{setUpChecks, postAnswer}
 use Rattle.writer.specs.declared.draft.Draft.{Draft}

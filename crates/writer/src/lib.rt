@@ -1,6 +1,5 @@
 // Journals written into a lent buffer: a set-up block or a post at a time, by the checks that need no book.
 pub mod draft;
-pub mod frame;
 pub mod page;
 pub mod tally;
 pub mod writer;

@@ -5,14 +5,15 @@ ghost use lib.ListN.{length};
 ghost use Rattle.amounts.specs.Decline.{taken};
 ghost use Rattle.layout.specs.Frame.{bodyOf, blockOf};
 ghost use Rattle.layout.specs.declared.verdict.Verdict.the-variants.{Accepted};
-ghost use Rattle.writer.specs.Frame.{placed};
+ghost use Rattle.layout.specs.Bytes.{placed};
 ghost use Rattle.writer.specs.Page.{pageOf, freshDraft, setUpOn, postOn, ended, Sound, Answers};
 ghost use Rattle.writer.specs.Tally.{freshTally};
 use crate::draft;
 use crate::draft::Draft;
-use crate::frame;
 use crate::tally;
 use crate::tally::Tally;
+use layout::bytes;
+use layout::frame;
 use layout::posts::POST_SIZE;
 use layout::verdict::Verdict;
 
@@ -46,7 +47,7 @@ fn put_block(
     ensures { λ _. ⌜ now (buffer .exit) ≡ placed (now (buffer .entry)) filled (blockOf kind count number (bodyOf block)) ⌝ }
 {
     let whole = frame::framed(block, kind, count, number as u16);
-    frame::put(buffer, filled, &whole);
+    bytes::put(buffer, filled, &whole);
     filled + BLOCK_SIZE
 }
 
@@ -74,7 +75,7 @@ pub fn take_set_up(
         };
     }
     let mut whole = [0; 512];
-    frame::put(&mut whole, 8, body);
+    bytes::put(&mut whole, 8, body);
     let end = put_block(buffer, filled, whole, kind, count, t.blocks);
     let tally = told.tally;
     let block = d.block;
@@ -125,7 +126,7 @@ pub fn take_post(buffer: &mut [u8], filled: usize, d: Draft, post: &[u8]) -> Tak
     }
     let tally = told.tally;
     let mut block = d.block;
-    frame::put(&mut block, 8 + t.waiting * POST_SIZE, post);
+    bytes::put(&mut block, 8 + t.waiting * POST_SIZE, post);
     if t.waiting == 9 {
         return finish(buffer, filled, block, 10, t.blocks, tally);
     }

@@ -7,11 +7,10 @@ use native.Mathlib.Omega.{arith}
 use borrow.Author.Tests.{eq-eqb, le-leb}
 use lib.ListN.{length, getD, take, drop, replicate, length-append, length-replicate, getD-replicate, replicate-append-replicate}
 use lib.Seq.{take-at, drop-at, drop-drop, drop-append-add, ext-getD}
-use Rattle.layout.specs.Bytes.{allZero}
+use Rattle.layout.specs.Bytes.{allZero, placed}
 use Rattle.layout.specs.Each.{allTo, listTo}
 use Rattle.layout.specs.Posts.{partOf}
 use Rattle.layout.proofs.Each.{length-list, list-at}
-use Rattle.writer.specs.Frame.{placed}
 use Rattle.claims.specs.Written.{joined}
 
 -- ---- bytes put at a place

@@ -11,7 +11,7 @@ use Rattle.layout.specs.Frame.{bodyOf, blockOf}
 use Rattle.layout.specs.Outline.{freshOutline, mayPost}
 use Rattle.layout.specs.declared.outline.Outline.{Outline}
 use Rattle.post.specs.Moves.{wellFormed}
-use Rattle.writer.specs.Frame.{placed}
+use Rattle.layout.specs.Bytes.{placed}
 use Rattle.writer.specs.Page.{Page, freshPage}
 use Rattle.writer.specs.Tally.{outlineAfter}
 use Rattle.writer.specs.declared.tally.Tally.{Tally}

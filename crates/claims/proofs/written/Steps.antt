@@ -12,7 +12,7 @@ use Rattle.layout.specs.Frame.{bodyOf, blockOf}
 use Rattle.layout.specs.declared.outline.Outline.{Outline}
 use Rattle.layout.proofs.frame.Made.{made-long}
 use Rattle.writer.specs.Calls.{setUp}
-use Rattle.writer.specs.Frame.{placed}
+use Rattle.layout.specs.Bytes.{placed}
 use Rattle.writer.specs.Page as page
 use Rattle.writer.specs.Page.{Page, pageOf, draftOf, finished, postsBlock, withPost, posted}
 use Rattle.writer.specs.Tally as tally

@@ -15,12 +15,12 @@ use Rattle.layout.specs.declared.verdict.Verdict.{Verdict}
 use Rattle.layout.specs.declared.verdict.Verdict.the-variants.{Accepted, Declined}
 use Rattle.post.specs.Kind.{Row}
 use Rattle.writer.specs.Calls as calls
-use Rattle.writer.specs.Frame.{placed}
+use Rattle.layout.specs.Bytes.{placed}
 use Rattle.writer.specs.Page as pages
 use Rattle.writer.specs.Page.{Page}
 use Rattle.writer.specs.Tally.{setUpChecks, postAnswer, finished, posted, ended, setUp, setUpOn, postOn, Sound, Counts}
 use Rattle.writer.specs.declared.tally.Tally.{Tally}
-use Rattle.writer.proofs.frame.Laws.{placed-long, placed-out}
+use Rattle.layout.proofs.bytes.Placed.{placed-long, placed-out}
 use Rattle.records.specs.Counting.{recordCounted}
 use Rattle.records.specs.Records.{Recorded, call, malformed, recordOf, tagOf, spanOf, bytesOf, firstOf}
 use Rattle.records.specs.Whole.{recordOn}

@@ -6,9 +6,11 @@ use native.Mathlib.Nat.{add-assoc, add-zero}
 use native.Mathlib.Numerals.{add-one}
 use native.Mathlib.Omega.{arith}
 use borrow.Author.Tests.{le-leb, lt-leb}
-use lib.ListN.{length, take, drop, getD, set, length-append, length-drop, take-append-drop}
-use lib.Seq.{take-at, drop-at, drop-drop, length-take-le, set-split, append-snoc, take-length, paste, paste-suc}
-use Rattle.text.specs.Writing.{written, Room, Puts, triedIn, triedAnswer, Tries}
+use lib.ListN.{length, take, drop, set, length-append, length-drop, take-append-drop}
+use lib.Seq.{take-at, drop-at, drop-drop, length-take-le, set-split, append-snoc}
+use Rattle.layout.specs.Bytes.{written, placed}
+use Rattle.layout.proofs.bytes.Placed.{placed-fits}
+use Rattle.text.specs.Writing.{Room, Puts, triedIn, triedAnswer, Tries}
 use Rattle.text.specs.declared.writing.Written.the-variants.{At, NoRoom}
 
 -- ---- writes
@@ -46,10 +48,6 @@ unfolding written
 written-one l at x h =
     set-split l at x h ∙ ap (λ (k : ℕ). take at l ++ x ∷ drop k l) (sym (add-one at)) ∙ sym (append-snoc (take at l) x (drop (at + 1) l))
 
-written-paste : (l : List ℕ) (at : ℕ) (a : List ℕ) → paste l at a (length a) ≡ written l at a
-unfolding written
-written-paste l at a = ap (λ (x : List ℕ). take at l ++ x ++ drop (at + length a) l) (take-length a)
-
 -- ---- runs of writes: the text is taken apart from the front
 
 pub room-first : {l : List ℕ} {at : ℕ} (a b : List ℕ) → Room l at (a ++ b) → Room l at a
@@ -76,14 +74,9 @@ puts-length {l} {at = at} {a = a} h p = ap length (p .text-in) ∙ written-lengt
 pub puts-one : (l : List ℕ) (at x : ℕ) → Room l at (x ∷ []) → Puts l at (x ∷ []) (set l at x) (at + 1)
 puts-one l at x h = record { text-in = written-one l at x (omega (arith, h .within)); next = refl }
 
--- a turn of the loop of `put_bytes`, and its end
-module _ (l : List ℕ) (at : ℕ) (a m : List ℕ) (i : ℕ) (e : m ≡ paste l at a i) where
-  pub paste-more : at + i < length l → i < length a → set m (at + i) (getD a i 0) ≡ paste l at a (i + 1)
-  paste-more h k = rw (e, add-one i) (paste-suc l at a i 0 h k)
-
-  pub puts-paste : i ≡ length a → Puts l at a m (at + i)
-  puts-paste k =
-      record { text-in = e ∙ ap (paste l at a) k ∙ written-paste l at a; next = ap (λ (j : ℕ). at + j) k }
+-- bytes put where they fit
+pub puts-placed : (l : List ℕ) (at : ℕ) (a m : List ℕ) → Room l at a → m ≡ placed l at a → Puts l at a m (at + length a)
+puts-placed l at a m h e = record { text-in = e ∙ placed-fits l at a (h .within); next = refl }
 
 pub room-as : {l a b : List ℕ} {at : ℕ} → a ≡ b → Room l at b → Room l at a
 room-as {l = l} {at = at} e h = subst (λ (x : List ℕ). Room l at x) (sym e) h

@@ -14,9 +14,9 @@ use Rattle.layout.specs.Frame.{bodyOf, blockOf}
 use Rattle.layout.specs.Verdict.{verdictOf}
 use Rattle.layout.specs.declared.verdict.Verdict.the-variants.{Accepted, Declined}
 use Rattle.post.specs.Kind.{Row}
-use Rattle.writer.proofs.frame.Laws.{placed-in}
+use Rattle.layout.proofs.bytes.Placed.{placed-in}
 use Rattle.writer.proofs.tally.Laws.{tally-fresh, early, posted-finishes, posted-joins, set-up-free, post-begun, end-begun}
-use Rattle.writer.specs.Frame.{placed}
+use Rattle.layout.specs.Bytes.{placed}
 use Rattle.writer.specs.Page.{Page, pageOf, draftOf, freshDraft, freshPage, withPost, finished, posted, postOn, setUpOn, ended, Sound, Answers}
 use Rattle.writer.specs.Tally as tally
 use Rattle.writer.specs.Tally.{kindChecks, setUpChecks, postAnswer, Counts}

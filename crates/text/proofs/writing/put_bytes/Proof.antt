@@ -1,63 +1,29 @@
-use mathlib.Core.Path.{_≡_, refl}
-use Prim.Native.Nat.{_-_, _≤_}
+use mathlib.Core.Path.{ap, _∙_}
 use native.Mathlib.Omega.{arith}
-use lib.ListN.{length, length-set}
-use lib.Seq.{paste, paste-zero}
-use Rattle.text.proofs.writing.Laws.{paste-more, puts-paste}
+use denote.Ref.{now}
+use lib.ListN.{length}
+use Rattle.layout.proofs.bytes.Placed.{placed-long}
+use Rattle.text.proofs.writing.Laws.{puts-placed}
+use borrow.Author.Needs.{needs}
 use Rattle.text.proofs.writing.put_bytes.Statement.{statement}
 use Rattle.text.proofs.writing.put_bytes.Tie as tie
 
-abbrev Inv-loop : tie.InvT-loop
-Inv-loop out₀ at text i₀ out i = (i ≤ length text) × (out ≡ paste out₀ at text i) × (length out ≡ length out₀)
+abbrev start : tie.After-slice-known2 → tie.Start
+start c = c .before .before .before .before .before .before
 
-abbrev μ-loop : tie.MeasureT-loop
-μ-loop out₀ at text i₀ out i = length text - i
+put-requires : tie.Need-put-requires
+put-requires c κs = search needs
 
-loop-holds : tie.Need-loop-holds Inv-loop μ-loop
-loop-holds c = (omega arith, paste-zero _ (c .args .at) (c .args .text .now), refl)
+add-result : tie.Need-add-result
+add-result c = omega (arith, start c .pre .within)
 
-shared-slice-read-out : tie.Need-shared-slice-read-out Inv-loop μ-loop
-shared-slice-read-out c = omega arith
+same-length : tie.Need-same-length
+same-length c =
+    let s = start c in
+    ap length (c .before .before .put .ensures) ∙ placed-long (now (s .args .out)) (s .args .at) (now (s .args .text)) (s .pre .within)
 
-add-out : tie.Need-add-out Inv-loop μ-loop
-add-out c = omega arith
-
-slice-write-out : tie.Need-slice-write-out Inv-loop μ-loop
-slice-write-out c = omega arith
-
-add-i : tie.Need-add-i Inv-loop μ-loop
-add-i c = omega arith
-
-loop-less : tie.Need-loop-less Inv-loop μ-loop
-loop-less c = omega arith
-
-loop-again : tie.Need-loop-again Inv-loop μ-loop
-loop-again c =
-    let z = c .before in
-    (omega arith, paste-more _ _ _ _ _ (z .before .loop .inv .1) (omega arith) (omega arith), simp length-set (z .before .loop .inv .2))
-
-add-result : tie.Need-add-result Inv-loop μ-loop
-add-result c = omega arith
-
-same-length : tie.Need-same-length Inv-loop μ-loop
-same-length c = c .before .loop .inv .2
-
-returns : tie.Need-returns Inv-loop μ-loop
-returns c = puts-paste _ _ _ _ _ (c .before .loop .inv .1) (omega arith)
+returns : tie.Need-returns
+returns c = let s = start c in puts-placed (now (s .args .out)) (s .args .at) (now (s .args .text)) _ (s .pre) (c .before .before .put .ensures)
 
 pub put-bytes-spec : {M : Type 1} → statement M
-put-bytes-spec =
-    tie.close
-    (tie.spec
-    Inv-loop
-    μ-loop
-    loop-holds
-    shared-slice-read-out
-    add-out
-    slice-write-out
-    add-i
-    loop-less
-    loop-again
-    add-result
-    same-length
-    returns)
+put-bytes-spec = tie.close (tie.spec put-requires add-result same-length returns)

@@ -1,5 +1,5 @@
 use mathlib.Core.Path.{refl, ap, _∙_}
-use Rattle.writer.specs.Frame.{placed}
+use Rattle.layout.specs.Bytes.{placed}
 use borrow.Author.Needs.{needs}
 use Rattle.writer.proofs.page.put_block.Statement.{statement}
 use Rattle.writer.proofs.page.put_block.Tie as tie

@@ -1,42 +1,14 @@
--- Bytes put at a place, and the block that its frame makes of a body. Assumes nothing.
-use mathlib.Core.Path.{_≡_, refl, sym, ap, ap₂, _∙_}
-use mathlib.Core.List.{List, [], _∷_, _++_, append-assoc, append-nil}
-use Prim.Native.Nat.{ℕ, _+_, _-_, _/_, _%_, _≤_, _<_}
-use native.Mathlib.Numerals.{add-one}
+-- The block that its frame makes of a body. Assumes nothing.
+use mathlib.Core.Path.{_≡_, refl, ap, ap₂, _∙_}
+use mathlib.Core.List.{List, [], _∷_, _++_, append-nil}
+use Prim.Native.Nat.{ℕ, _+_, _/_, _%_, _<_}
 use native.Mathlib.Omega.{arith}
-use borrow.Author.Tests.{le-leb, lt-leb}
-use lib.ListN.{length, take, drop, getD, set, length-append, length-drop, drop-of-length-le}
-use lib.Seq.{length-take-le, take-length, take-append-add, paste, paste-suc}
-use Rattle.layout.specs.Bytes.{littleEndian}
+use lib.ListN.{length, take, drop, drop-of-length-le}
+use lib.Seq.{take-append-add}
+use Rattle.layout.specs.Bytes.{littleEndian, placed}
 use Rattle.layout.specs.Frame.{bodyOf, plainSum, weightedSum, sumsOf, headOf, summed, blockOf}
+use Rattle.layout.proofs.bytes.Placed.{placed-in, placed-long}
 use Rattle.layout.proofs.frame.Made.{plain-small, weighted-small}
-use Rattle.writer.specs.Frame.{placed}
-
--- where the bytes fit, and where they don't
-pub placed-in : (l : List ℕ) (at : ℕ) (s : List ℕ) → at + length s ≤ length l → placed l at s ≡ take at l ++ (s ++ drop (at + length s) l)
-unfolding placed
-placed-in l at s h = rw (le-leb (at + length s) (length l) h)
-
-pub placed-out : (l : List ℕ) (at : ℕ) (s : List ℕ) → length l < at + length s → placed l at s ≡ l
-unfolding placed
-placed-out l at s h = rw (lt-leb (at + length s) (length l) h)
-
-pub placed-long : (l : List ℕ) (at : ℕ) (s : List ℕ) → at + length s ≤ length l → length (placed l at s) ≡ length l
-placed-long l at s h =
-    ap length (placed-in l at s h)
-    ∙ omega (arith, length-append (take at l) (s ++ drop (at + length s) l), length-append s (drop (at + length s) l), length-take-le at l (omega arith), length-drop (at + length s) l)
-
--- a round of the loop of `put`, and its end
-module _ (l : List ℕ) (at : ℕ) (a m : List ℕ) (i : ℕ) (e : m ≡ paste l at a i) where
-  pub paste-more : at + i < length l → i < length a → set m (at + i) (getD a i 0) ≡ paste l at a (i + 1)
-  paste-more h k = rw (e, add-one i) (paste-suc l at a i 0 h k)
-
-  pub paste-whole : i ≡ length a → at + length a ≤ length l → m ≡ placed l at a
-  paste-whole k h =
-      e ∙ ap (paste l at a) k ∙ ap (λ (x : List ℕ). take at l ++ x ++ drop (at + length a) l) (take-length a)
-      ∙ append-assoc (take at l) a (drop (at + length a) l) ∙ sym (placed-in l at a h)
-
--- ---- the frame around a body
 
 two-bytes : (n : ℕ) → n < 65536 → n / 256 ≡ n / 256 % 256
 two-bytes n h = omega arith

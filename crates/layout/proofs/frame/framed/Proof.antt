@@ -1,11 +1,11 @@
 use mathlib.Core.Path.{sym, ap, _∙_}
 use Prim.Native.Nat.{_/_, _%_}
 use native.Mathlib.Omega.{arith}
 use Rattle.layout.specs.declared.frame.CheckSums.{CheckSums}
-use Rattle.writer.proofs.frame.Laws.{framed-is}
+use Rattle.layout.proofs.frame.Around.{framed-is}
 use borrow.Author.Needs.{needs}
-use Rattle.writer.proofs.frame.framed.Statement.{statement}
-use Rattle.writer.proofs.frame.framed.Tie as tie
+use Rattle.layout.proofs.frame.framed.Statement.{statement}
+use Rattle.layout.proofs.frame.framed.Tie as tie
 
 low-requires : tie.Need-low-requires
 low-requires c κs = search needs
