@@ -6,7 +6,7 @@ use lib.Ieee as ieee
 use lib.ListN.{replicate}
 use Rattle.amounts.specs.Content.{countedOf}
 use Rattle.amounts.specs.Decline.{taken, declined, valueOr, short}
-use Rattle.layout.specs.Bytes.{le, padded, placed}
+use Rattle.layout.specs.Bytes.{le, padded, written, placed}
 use Rattle.layout.specs.Each.{sumTo, allTo, listTo, putTo}
 use Rattle.plant.specs.Stage.{ratesAt}
 use Rattle.post.specs.Fields.{postAt}
@@ -58,7 +58,7 @@ lent = replicate 1536 7
 -- ---- the premise met
 
 writer-takes-met : accepted (freshPage lent) met ≡ met
-unfolding met lent accepted page.setUpOn page.postOn placed le sumTo allTo ratesAt postAt ieee.ofBits ieee.round ieee.le
+unfolding met lent accepted page.setUpOn page.postOn placed written le sumTo allTo ratesAt postAt ieee.ofBits ieee.round ieee.le
 writer-takes-met = refl
 
 -- the book that took them singly
@@ -81,7 +81,7 @@ both-posted = refl
 -- ---- the premise not met: a store can't give what it hasn't
 
 writer-takes-unmet : accepted (freshPage lent) unmet ≡ unmet
-unfolding unmet lent accepted page.setUpOn page.postOn placed le sumTo allTo ratesAt postAt ieee.ofBits ieee.round ieee.le
+unfolding unmet lent accepted page.setUpOn page.postOn placed written le sumTo allTo ratesAt postAt ieee.ofBits ieee.round ieee.le
 writer-takes-unmet = refl
 
 book-declines-unmet : allTaken freshBook (singly 0 unmet) ≡ declined short

@@ -4,24 +4,24 @@ use mathlib.Core.Bool.{Bool, true}
 use mathlib.Core.List.{List, [], _∷_, _++_, append-assoc, append-nil}
 use Prim.Native.Nat.{ℕ, zero, suc, _+_, _*_, _≤_, _<_}
 use native.Mathlib.Omega.{arith}
-use borrow.Author.Tests.{eq-eqb, le-leb}
+use borrow.Author.Tests.{eq-eqb}
 use lib.ListN.{length, getD, take, drop, replicate, length-append, length-replicate, getD-replicate, replicate-append-replicate}
 use lib.Seq.{take-at, drop-at, drop-drop, drop-append-add, ext-getD}
 use Rattle.layout.specs.Bytes.{allZero, placed}
 use Rattle.layout.specs.Each.{allTo, listTo}
 use Rattle.layout.specs.Posts.{partOf}
 use Rattle.layout.proofs.Each.{length-list, list-at}
+use Rattle.layout.proofs.bytes.Placed.{placed-in}
 use Rattle.claims.specs.Written.{joined}
 
 -- ---- bytes put at a place
 
 -- behind the front of a list they replace as many of the rest
 pub placed-at : (p q s : List ℕ) (n : ℕ) → length p ≡ n → length s ≤ length q → placed (p ++ q) n s ≡ p ++ (s ++ drop (length s) q)
-unfolding placed
 placed-at p q s n e h =
     let fits : n + length s ≤ length (p ++ q) = omega (arith, length-append p q) in
     let rest : drop (n + length s) (p ++ q) ≡ drop (length s) q = sym (drop-drop (length s) n (p ++ q)) ∙ ap (drop (length s)) (drop-at p q n e) in
-    rw (le-leb (n + length s) (length (p ++ q)) fits, take-at p q n e, rest)
+    placed-in (p ++ q) n s fits ∙ rw (take-at p q n e, rest)
 
 -- ---- zeros
 
