@@ -18,7 +18,7 @@ pub(crate) enum LossForm {
         volume: f64,
         partial: f64,
         tank: f64,
-        share: f64,
+        escaping: f64,
     },
     Station {
         received: f64,
@@ -155,7 +155,7 @@ fn read_fixed_roof(w: u64, u: u64, p: u64, q: u64) -> FormRead
             volume: x.w,
             partial: x.u,
             tank: x.p,
-            share: x.q,
+            escaping: x.q,
         }),
         InputsRead::Declined(d) => FormRead::Declined(d),
     }

@@ -63,13 +63,13 @@ fn loss_kg(form: LossForm, found: Found) -> Kg
             volume,
             partial,
             tank,
-            share,
+            escaping,
         } => {
             if found.known != coefficient::KNOWN {
                 return Kg::Declined(decline::NO_ROW);
             }
             let row = found.row;
-            Kg::Value(fixed_roof_kg(row, volume, partial, tank, share))
+            Kg::Value(fixed_roof_kg(row, volume, partial, tank, escaping))
         }
         LossForm::Station {
             received,

@@ -16,7 +16,7 @@ const TANK: u64 = 0x40f7f34000000000;
 
 const DIAMETER: u64 = 0x402c000000000000;
 
-const SHARE: u64 = 0x4023cccccccccccd;
+const PERCENT: u64 = 0x4023cccccccccccd;
 
 const DRAWN: u64 = 0x4097700000000000;
 
@@ -119,7 +119,7 @@ fn emitted(mut b: Book) -> Book
     b = desk::post(b, 11, 0, 1, 1, 250_000, 2_000_001);
     b = desk::post(b, 11, 0, 0, 2, 30, 70_001);
     b = desk::vapour(b, 2, 0, 0, VOLUME, PARTIAL, TANK, ONE);
-    b = desk::vapour(b, 1, 0, 1, DIAMETER, SHARE, DRAWN, 0);
+    b = desk::vapour(b, 1, 0, 1, DIAMETER, PERCENT, DRAWN, 0);
     desk::vapour(b, 3, 1, 2, RECEIVED, FILLING, DISPENSED, FUELING)
 }
 

@@ -304,16 +304,16 @@ floating-within row w u p q c h =
     let r = inputs floatingRanges w u p q h in
     let spread = div-within (in-range 0 4 2 tt {x = whole 4} refl) (in-range-one 1000 (r .0)) (lit≤ tt) in
     let drawn = mul-within (mul-within (in-range 0 1 0 tt (c .0)) spread (lit≤ tt)) (in-range 1 1000 10 tt (c .1)) (lit≤ tt) in
-    let share = div-within (in-range 0 100 7 tt (r .1)) (in-range-one 100 {x = whole 100} refl) (lit≤ tt) in
-    mul-within (mul-within (div-within drawn (in-range-one 100 {x = decimal 224 10} refl) (lit≤ tt)) share (lit≤ tt)) (billion (r .2)) (lit≤ tt)
+    let percent = div-within (in-range 0 100 7 tt (r .1)) (in-range-one 100 {x = whole 100} refl) (lit≤ tt) in
+    mul-within (mul-within (div-within drawn (in-range-one 100 {x = decimal 224 10} refl) (lit≤ tt)) percent (lit≤ tt)) (billion (r .2)) (lit≤ tt)
 
 fixed-within : (row : CoefficientRow) (w u p q : Float) → RowWithin row → inRanges fixedRanges w u p q ≡ true → Within 70 (fixedRoofKg row w u p q)
 unfolding fixedRoofKg le round
 fixed-within row w u p q c h =
     let r = inputs fixedRanges w u p q h in
     let density = mul-within (in-range 0 1 0 tt {x = decimal 41 1000} refl) (in-range 1 1000 10 tt (c .1)) (lit≤ tt) in
-    let share = div-within (billion (r .1)) (in-range-one (10 ^ 9) (r .2)) (lit≤ tt) in
-    mul-within (mul-within (mul-within density (billion (r .0)) (lit≤ tt)) share (lit≤ tt)) (in-range 0 1 0 tt (r .3)) (lit≤ tt)
+    let parts = div-within (billion (r .1)) (in-range-one (10 ^ 9) (r .2)) (lit≤ tt) in
+    mul-within (mul-within (mul-within density (billion (r .0)) (lit≤ tt)) parts (lit≤ tt)) (in-range 0 1 0 tt (r .3)) (lit≤ tt)
 
 station-within : (w u p q : Float) → inRanges stationRanges w u p q ≡ true → Within 61 (stationKg w u p q)
 unfolding stationKg
