@@ -1,4 +1,4 @@
-// A block on a book: its frame, and then what its kind does.
+// A block on a book: its frame, and then what it holds.
 ghost use mathlib.Core.Path.{_≡_};
 ghost use Prim.Native.Nat.{_<_};
 ghost use Rattle.book.specs.Answer.{outcome};
@@ -12,25 +12,21 @@ use crate::setup;
 use crate::setup::SetupEnd;
 use crate::site::Book;
 use crate::stage;
-use amounts::decline;
 use layout::frame;
+use layout::holds::Holds;
+use layout::holds::HoldsRead;
+use layout::holds::SetupPart;
 use layout::verdict::Verdict;
 use plant::setup::Setup;
 
-// A set-up block, by its kind.
-pub(crate) fn set_up_by(u: Setup, kind: u8, count: u8, body: &[u8]) -> SetupEnd
+// A set-up with a part more.
+pub(crate) fn set_up_by(u: Setup, part: SetupPart, count: u8, body: &[u8]) -> SetupEnd
     requires { ⌜ SoundSetup u ⌝ }
-    ensures { λ r. ⌜ guarded (r .verdict) (r .setup) ≡ setupBy u kind count (now (body .entry)) ⌝ }
+    ensures { λ r. ⌜ guarded (r .verdict) (r .setup) ≡ setupBy u part count (now (body .entry)) ⌝ }
 {
-    if kind == 1 {
-        return setup::set_up(u, count, body);
-    }
-    if kind == 2 {
-        return stage::describe(u, count, body);
-    }
-    SetupEnd {
-        verdict: Verdict::Declined(decline::NOT_NEXT),
-        setup: u,
+    match part {
+        SetupPart::Materials => setup::set_up(u, count, body),
+        SetupPart::Stage => stage::describe(u, count, body),
     }
 }
 
@@ -63,15 +59,17 @@ pub fn take_block(b: Book, s: &[u8]) -> Answered
     ensures { λ r. ⌜ r ≡ outcome b (blockOn b (now (s .entry))) ⌝ }
     ensures { λ r. ⌜ Sound (r .book) ⌝ }
 {
-    if let Verdict::Declined(d) = frame::check_frame(b.blocks, s) {
-        return answer::declined(b, d);
-    }
-    let kind = s[4];
+    let held = match frame::read_frame(b.blocks, s) {
+        HoldsRead::Declined(d) => return answer::declined(b, d),
+        HoldsRead::Known(h) => h,
+    };
     let count = s[5];
     let body = &s[8..508];
-    if kind == 3 {
-        return posts::take_posts(b, count, body);
+    match held {
+        Holds::Posts => posts::take_posts(b, count, body),
+        Holds::SetUp(part) => {
+            let u = b.setup;
+            with_setup(b, set_up_by(u, part, count, body))
+        }
     }
-    let u = b.setup;
-    with_setup(b, set_up_by(u, kind, count, body))
 }

@@ -11,6 +11,8 @@ use crate::site::Book;
 use crate::site::Year;
 use amounts::decline::Decline;
 use layout::frame;
+use layout::holds::Holds;
+use layout::holds::HoldsRead;
 use layout::verdict::Verdict;
 use plant::setup::Setup;
 
@@ -88,32 +90,33 @@ pub fn take_whole(journal: &[u8]) -> WholeRead
     while at < journal.len() {
         let end = part_end(at, journal.len());
         let part = &journal[at..end];
-        if let Verdict::Declined(d) = frame::check_frame(blocks, part) {
-            return refused_at(blocks, d);
-        }
-        let kind = part[4];
+        let held = match frame::read_frame(blocks, part) {
+            HoldsRead::Declined(d) => return refused_at(blocks, d),
+            HoldsRead::Known(h) => h,
+        };
         let count = part[5];
         let body = &part[8..508];
-        if kind == 3 {
-            let r = run_body(setup, store, sums, handled, posts, closed, count, body);
-            let v = r.verdict;
-            if let Verdict::Declined(d) = v {
-                return refused_at(blocks, d);
+        match held {
+            Holds::Posts => {
+                let r = run_body(setup, store, sums, handled, posts, closed, count, body);
+                let v = r.verdict;
+                if let Verdict::Declined(d) = v {
+                    return refused_at(blocks, d);
+                }
+                posts = r.posts;
+                closed = r.closed;
             }
-            posts = r.posts;
-            closed = r.closed;
-            blocks += 1;
-            at = end;
-        } else {
-            let r = set_up_by(setup, kind, count, body);
-            let v = r.verdict;
-            if let Verdict::Declined(d) = v {
-                return refused_at(blocks, d);
+            Holds::SetUp(p) => {
+                let r = set_up_by(setup, p, count, body);
+                let v = r.verdict;
+                if let Verdict::Declined(d) = v {
+                    return refused_at(blocks, d);
+                }
+                setup = r.setup;
             }
-            setup = r.setup;
-            blocks += 1;
-            at = end;
         }
+        blocks += 1;
+        at = end;
     }
     read_to(setup, *store, *sums, *handled, posts, closed, blocks)
 }

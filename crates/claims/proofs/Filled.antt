@@ -15,17 +15,20 @@ use Rattle.layout.specs.Each.{allTo}
 use Rattle.layout.specs.Frame.{bodyOf, frameChecks, blockOf}
 use Rattle.layout.specs.Outline.{mayPost}
 use Rattle.layout.specs.Posts.{postIn, ownChecks}
+use Rattle.layout.specs.declared.holds.Holds.the-variants.{Posts}
 use Rattle.layout.specs.declared.outline.Outline.{Outline}
 use Rattle.plant.specs.declared.setup.Setup.{Setup}
 use Rattle.layout.proofs.Checked.{passed}
-use Rattle.layout.proofs.frame.Made.{kind-made, count-made, body-made}
+use Rattle.layout.proofs.frame.Laws.{is-held}
+use Rattle.layout.proofs.frame.Made.{held-made, count-made, body-made}
+use Rattle.layout.proofs.holds.Laws.{of-posts}
 use Rattle.post.specs.Fields.{postAt}
 use Rattle.post.specs.Moves.{laidOut, moveAt, moveIn}
 use Rattle.book.specs.Block.{onYear, blockOn}
 use Rattle.book.specs.Posts.{postOn, takenTo, postsOn}
 use Rattle.book.specs.Site.{bookWith}
 use Rattle.book.specs.declared.site.Year.{Year}
-use Rattle.book.proofs.block.Laws.{is-framed, by-posts}
+use Rattle.book.proofs.block.Laws.{is-framed}
 use Rattle.book.proofs.posts.Laws.{posted, taken-suc, none-yet, own-taken}
 
 -- ---- posts in bytes
@@ -133,8 +136,7 @@ module _ (n : ℕ) (l : List ℕ) (long : length l ≡ n * 48) (some : 1 ≤ n) 
         → blockOn (bookWith u y m) made ≡ taken (bookWith u z (m + 1))
     block-of-posts u y z frame run =
         let b = bookWith u y m in
-        is-framed b made frame
-        ∙ by-posts b made (kind-made 3 n m (padded 500 l))
+        is-framed b made Posts (is-held m made frame ∙ held-made 3 n m (padded 500 l) Posts of-posts)
         ∙ ap (λ (k : ℕ). onYear b (postsOn u y k (bodyOf made))) (count-made 3 n m (padded 500 l))
         ∙ ap (λ (body : List ℕ). onYear b (postsOn u y n body)) (body-made 3 n m (padded 500 l) (padded-long 500 l (omega arith)))
         ∙ ap (onYear b) (posts-of-body u y z run)

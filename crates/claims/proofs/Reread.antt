@@ -9,18 +9,19 @@ use borrow.Author.Tests.{eqb-true, eqb-false, ne-eqb}
 use lib.Dec.{eqb}
 use lib.ListN.{length, length-append}
 use lib.Seq.{take-at, drop-at}
-use Rattle.amounts.specs.Decline.{Answer, taken, Check, check, checked, isTaken, layout, noRoom}
+use Rattle.amounts.specs.Decline.{Answer, taken, Check, check, checked, isTaken}
 use Rattle.amounts.proofs.decline.Laws.{was-taken}
 use Rattle.layout.specs.Frame.{blockKind, countOf, bodyOf, frameChecks, blockOf}
+use Rattle.layout.specs.Holds.{holdsOf}
 use Rattle.layout.specs.Outline.{mayPost, freshOutline}
 use Rattle.layout.specs.Posts.{postIn}
 use Rattle.plant.specs.Setup.{setupOf}
-use Rattle.layout.specs.Bytes.{within}
+use Rattle.layout.specs.declared.holds.Holds.the-variants.{SetUp, Posts}
+use Rattle.layout.specs.declared.holds.SetupPart.{SetupPart}
 use Rattle.layout.specs.declared.outline.Outline.{Outline}
 use Rattle.plant.specs.declared.setup.Setup.{Setup}
 use Rattle.layout.proofs.frame.Laws.{framed}
-use Rattle.layout.proofs.frame.Made.{kind-made}
-use Rattle.layout.proofs.bytes.Laws.{within-true}
+use Rattle.layout.proofs.frame.Made.{held-made}
 use Rattle.book.specs.Block.{blockOn}
 use Rattle.book.specs.Posts.{postOn, takenTo, singleOn}
 use Rattle.book.specs.Site.{freshBook, freshSetup, freshYear, bookWith}
@@ -40,42 +41,37 @@ use Rattle.report.specs.Report.{reportAt}
 use Rattle.text.specs.Line.{lineText}
 use Rattle.writer.specs.Calls as calls
 use Rattle.writer.specs.Calls.{setUp, end, accepted}
-use Rattle.writer.specs.Page.{Page, freshPage, draftOf, withBlock, setUpOn}
-use Rattle.writer.specs.Tally as tally
-use Rattle.writer.specs.Tally.{isFree, kindChecks}
+use Rattle.writer.specs.Page.{Page, freshPage, setUpOn}
 use Rattle.claims.specs.Singles.{allTaken}
 use Rattle.claims.specs.Written.{joined, Sheet, ofPosts, sheets, framedFrom, blocksOf, endedCalls}
 use Rattle.claims.specs.Written as written
 use Rattle.claims.specs.Reread.{singly, JournalIsItsCalls, FilingIsOfCalls}
+use Rattle.claims.proofs.written.Accepted.{has-value, not-posts, set-up-taken}
 use Rattle.claims.proofs.written.Claims.{blocks-pass}
 use Rattle.claims.proofs.written.Places.{joined-last}
 use Rattle.claims.proofs.Filled.{run-admits, taken-long, one-more, block-of-posts}
 
 -- ---- the set-ups that a writer takes
 
--- each is of kind 1 or 2
+-- each is a part of the set-up
+abbrev Part : ℕ → Type 0
+Part kind = (part : SetupPart) × (holdsOf kind ≡ taken (SetUp part))
+
 abbrev Kinds : List calls.Call → Type 0
 Kinds [] = Unit
-Kinds (setUp kind count body ∷ cs) = (within 1 2 kind ≡ true) × Kinds cs
+Kinds (setUp kind count body ∷ cs) = Part kind × Kinds cs
 Kinds (calls.post s ∷ cs) = Kinds cs
 Kinds (end ∷ cs) = Kinds cs
 
--- a table that takes has passed its first check
-first-check : {A : Type 0} (t : Bool) (n : ℕ) (rows : List Check) (a : A) → isTaken (checked (check t n ∷ rows) a) ≡ true → t ≡ true
-unfolding checked
-first-check true n rows a e = refl
-first-check false n rows a e = e
-
 -- a set-up that the writer takes has such a kind
-writer-kind : (p : Page) (kind count : ℕ) (body : List ℕ) → isTaken (setUpOn p kind count body) ≡ true → within 1 2 kind ≡ true
-unfolding setUpOn
+writer-kind : (p : Page) (kind count : ℕ) (body : List ℕ) → isTaken (setUpOn p kind count body) ≡ true → Part kind
 writer-kind p kind count body e =
-    let t = p .draft .tally in
-    first-check (within 1 2 kind) layout (kindChecks (t .outline) kind count body ++ (check (isFree (length (p .bytes)) t) noRoom ∷ []))
-    (withBlock p (blockOf kind count (t .blocks) body) (draftOf (tally.setUp t kind count body) (p .draft .block))) e
+    let q = has-value (setUpOn p kind count body) e in
+    let a = set-up-taken p (q .0) kind count body (q .1) in
+    (a .0, a .1 .holds)
 
 -- a call that is kept, or not
-keep-set-up : (t : Bool) (kind count : ℕ) (body : List ℕ) (cs : List calls.Call) → (t ≡ true → within 1 2 kind ≡ true) → Kinds cs → Kinds (calls.keep t (setUp kind count body) cs)
+keep-set-up : (t : Bool) (kind count : ℕ) (body : List ℕ) (cs : List calls.Call) → (t ≡ true → Part kind) → Kinds cs → Kinds (calls.keep t (setUp kind count body) cs)
 keep-set-up true kind count body cs k rest = (k refl, rest)
 keep-set-up false kind count body cs k rest = rest
 
@@ -261,21 +257,21 @@ record Set (u : Setup) (y : Year) (k : ℕ) (c : Book) : Type 0 where
   pub book : c ≡ bookWith setup y (k + 1)
   pub early : mayPost (u .outline) ≡ false
 
-set-done : (u : Setup) (y : Year) (k : ℕ) (s : List ℕ) (c : Book) → (blockKind s ≡ 3 → ⊥) → Done (bookWith u y k) s c → Set u y k c
-set-done u y k s c not-posts (set-up kind a is) = record { setup = setupOf (countOf s) (bodyOf s); book = is; early = first.not-yet (u .outline) (a .none) }
-set-done u y k s c not-posts (described kind a is) = record { setup = withStage u (countOf s) (bodyOf s); book = is; early = stage.not-yet (u .outline) (a .left) }
-set-done u y k s c not-posts (blocks.posted z kind o run is) = absurd (not-posts kind)
+set-done : (u : Setup) (y : Year) (k : ℕ) (s : List ℕ) (c : Book) → (holdsOf (blockKind s) ≡ taken Posts → ⊥) → Done (bookWith u y k) s c → Set u y k c
+set-done u y k s c other (set-up kind a is) = record { setup = setupOf (countOf s) (bodyOf s); book = is; early = first.not-yet (u .outline) (a .none) }
+set-done u y k s c other (described kind a is) = record { setup = withStage u (countOf s) (bodyOf s); book = is; early = stage.not-yet (u .outline) (a .left) }
+set-done u y k s c other (blocks.posted z kind o run is) = absurd (other kind)
 
 -- both books take it
-reads-set-up : (u : Setup) (y z : Year) (waiting : List (List ℕ)) (m k place : ℕ) (b c : Book) (kind count : ℕ) (body : List ℕ) (cs : List calls.Call) → within 1 2 kind ≡ true
+reads-set-up : (u : Setup) (y z : Year) (waiting : List (List ℕ)) (m k place : ℕ) (b c : Book) (kind count : ℕ) (body : List ℕ) (cs : List calls.Call) → Part kind
     → Joint u y z waiting m k → blockOn (bookWith u z k) (blockOf kind count k body) ≡ taken c
     → ((v : Setup) → c ≡ bookWith v z (suc k) → Frames (suc k) (framedFrom (suc k) (sheets [] cs)) → Reads v z (suc k) (suc place) (framedFrom (suc k) (sheets [] cs)) b)
     → Frames m (framedFrom m (sheets waiting (setUp kind count body ∷ cs))) → Reads u y m place (framedFrom m (sheets waiting (setUp kind count body ∷ cs))) b
 unfolding sheets framedFrom
-reads-set-up u y z waiting m k place b c kind count body cs two j e rest =
+reads-set-up u y z waiting m k place b c kind count body cs part j e rest =
     let s = blockOf kind count k body in
-    let not-posts : blockKind s ≡ 3 → ⊥ = λ q. omega (arith, kind-made kind count k body, within-true 1 2 kind two .1) in
-    let d = set-done u z k s c not-posts (block-done (bookWith u z k) c s e .1) in
+    let held = held-made kind count k body (SetUp (part .0)) (part .1) in
+    let d = set-done u z k s c (not-posts (part .0) held) (block-done (bookWith u z k) c s e .1) in
     let none = j .before (d .early) in
     subst (λ (x : Year). Claim x waiting m) (same-year u y z waiting m k j (none .0))
     (subst (λ (l : List (List ℕ)). Claim z l m) (sym (none-waits waiting (none .0)))

@@ -5,14 +5,16 @@ use mathlib.Core.List.{List, [], _∷_, _++_}
 use Prim.Native.Nat.{ℕ, zero, suc, _+_}
 use Rattle.amounts.specs.Decline.{Answer, taken, declined, Check, check, checked, onTaken}
 use Rattle.layout.specs.Each.{listTo}
-use Rattle.layout.specs.Frame.{blockKind, countOf, bodyOf, frameChecks}
+use Rattle.layout.specs.Frame.{blockKind, countOf, bodyOf, frameChecks, heldAt}
+use Rattle.layout.specs.Holds.{holdsOf}
 use Rattle.layout.specs.Posts.{postIn, ownChecks}
-use Rattle.book.specs.Block.{byKind, blockOn}
+use Rattle.layout.specs.declared.holds.Holds.{Holds}
+use Rattle.layout.specs.declared.holds.Holds.the-variants.{Posts}
+use Rattle.book.specs.Block.{byHolds, blockOn}
 use Rattle.book.specs.Posts.{postOn, takenTo, postsOn, singleOn}
 use Rattle.book.specs.Site.{bookWith}
 use Rattle.book.specs.declared.site.Book.{Book}
 use Rattle.book.specs.declared.site.Year.{Year}
-use Rattle.book.proofs.block.Laws.{by-posts}
 use Rattle.claims.specs.Singles.{allTaken, singles, BlockIsItsPosts}
 use Rattle.claims.specs.Standing.{Call, post, answerTo}
 
@@ -85,11 +87,10 @@ module _ (b : Book) (s : List ℕ) where
   after = onTaken (allTaken b (singles s)) (λ c. taken (bookWith (c .setup) (c .year) (b .blocks + 1)))
 
   -- its own bytes, and then its posts
-  body-is : blockKind s ≡ 3 → byKind b s ≡ onTaken (checked own s) (λ _. after)
+  body-is : byHolds b s Posts ≡ onTaken (checked own s) (λ _. after)
   unfolding postsOn
-  body-is k =
-      by-posts b s k
-      ∙ ap (λ (x : Answer Year). onTaken x (λ y. taken (bookWith (b .setup) y (b .blocks + 1)))) (taken-value own (countOf s) (takenTo (b .setup) (b .year) (postIn (bodyOf s))))
+  body-is =
+      ap (λ (x : Answer Year). onTaken x (λ y. taken (bookWith (b .setup) y (b .blocks + 1)))) (taken-value own (countOf s) (takenTo (b .setup) (b .year) (postIn (bodyOf s))))
       ∙ inside (checked own (countOf s))
       ∙ ap (λ (x : Answer Book). onTaken (checked own (countOf s)) (λ _. x)) its-posts
       ∙ any-value own (countOf s) s after
@@ -101,7 +102,12 @@ module _ (b : Book) (s : List ℕ) where
       inside (declined n) = refl
 
 pub block-is-its-posts : BlockIsItsPosts
-unfolding blockOn
+unfolding blockOn heldAt
 block-is-its-posts b s k =
-    taken-value (frameChecks (b .blocks) s) s (byKind b)
-    ∙ ap (λ (x : Answer Book). onTaken (checked (frameChecks (b .blocks) s) s) (λ _. x)) (body-is b s k)
+    ap (λ (x : Answer Holds). onTaken x (byHolds b s)) (taken-value (frameChecks (b .blocks) s) s (λ s. holdsOf (blockKind s)))
+    ∙ framed (checked (frameChecks (b .blocks) s) s)
+    ∙ ap (λ (x : Answer Book). onTaken (checked (frameChecks (b .blocks) s) s) (λ _. x)) (ap (λ (x : Answer Holds). onTaken x (byHolds b s)) k ∙ body-is b s)
+  where
+    framed : (x : Answer (List ℕ)) → onTaken (onTaken x (λ _. holdsOf (blockKind s))) (byHolds b s) ≡ onTaken x (λ _. onTaken (holdsOf (blockKind s)) (byHolds b s))
+    framed (taken a) = refl
+    framed (declined n) = refl

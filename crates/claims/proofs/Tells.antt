@@ -4,13 +4,16 @@ use mathlib.Core.Bool.{true, false, true≢false, not}
 use mathlib.Core.List.{List, [], _∷_, _++_, append-assoc, append-nil, map}
 use Prim.Native.Nat.{ℕ, zero, suc, _+_, _*_, _^_, _≤_, _<_}
 use native.Mathlib.Omega.{arith}
-use borrow.Author.Tests.{eq-eqb, ne-eqb}
 use lib.Dec.{eqb}
 use lib.ListN.{length, getD, length-append}
 use Rattle.amounts.specs.Decline.{Answer, taken, declined, isTaken, valueOr}
 use Rattle.amounts.proofs.decline.Laws.{was-taken}
 use Rattle.layout.specs.Each.{listTo}
 use Rattle.layout.specs.Frame.{blockKind, countOf, bodyOf}
+use Rattle.layout.specs.Holds.{holdsOf}
+use Rattle.layout.specs.declared.holds.Holds.{Holds}
+use Rattle.layout.specs.declared.holds.Holds.the-variants.{SetUp, Posts}
+use Rattle.layout.specs.declared.holds.SetupPart.the-variants.{Materials, Stage}
 use Rattle.layout.specs.Outline.{mayPost}
 use Rattle.layout.specs.Posts.{postIn}
 use Rattle.plant.specs.Setup.{setupOf}
@@ -36,7 +39,8 @@ use Rattle.book.proofs.setup.Laws as first
 use Rattle.book.proofs.site.Laws.{sound-fresh}
 use Rattle.book.proofs.stage.Laws as stage
 use Rattle.claims.specs.Demand as demand
-use Rattle.claims.specs.Standing.{Call, post, block, answerTo, run, keep, accepted, Standing, nothing, withPosts, stand, stood, standing, substancesOf, numbersOf, countedIn, movesOf, sumOver}
+use Rattle.claims.specs.Standing.{Call, post, block, answerTo, run, keep, accepted, Standing, nothing, withPosts, withBlock, stand, stood, standing}
+use Rattle.claims.specs.Standing.{substancesOf, numbersOf, countedIn, movesOf, sumOver}
 use Rattle.claims.proofs.Setting.{SetBy, set-by, set-next}
 use Rattle.claims.proofs.State.{State, state-none, none-open, state-next}
 use Rattle.claims.proofs.Sums.{Each, each-last, sum-nil, sum-last, map-last}
@@ -213,15 +217,9 @@ no-stages : (w : Standing) (u : Setup) → u .outline .substances ≡ 0 → Sett
 no-stages w u z (unset e f g) = f
 no-stages w u z (is-set f) = absurd (omega (arith, f .some))
 
--- what stands after a block, by its kind
-stand-one : (w : Standing) (s : List ℕ) → blockKind s ≡ 1 → record { first = s; stages = w .stages; posts = w .posts } ≡ stand w (block s)
-stand-one w s k = rw (ne-eqb (blockKind s) 3 (λ e. omega arith), ne-eqb (blockKind s) 2 (λ e. omega arith), eq-eqb (blockKind s) 1 k)
-
-stand-two : (w : Standing) (s : List ℕ) → blockKind s ≡ 2 → record { first = w .first; stages = w .stages ++ (s ∷ []); posts = w .posts } ≡ stand w (block s)
-stand-two w s k = rw (ne-eqb (blockKind s) 3 (λ e. omega arith), eq-eqb (blockKind s) 2 k)
-
-stand-three : (w : Standing) (s : List ℕ) → blockKind s ≡ 3 → withPosts w (listTo (countOf s) (postIn (bodyOf s))) ≡ stand w (block s)
-stand-three w s k = rw (eq-eqb (blockKind s) 3 k)
+-- what stands after a block, by what it holds
+stand-by : (w : Standing) (s : List ℕ) (h : Holds) → holdsOf (blockKind s) ≡ taken h → withBlock w s (taken h) ≡ stand w (block s)
+stand-by w s h k = ap (withBlock w s) (sym k)
 
 tells-done : (w : Standing) (b c : Book) (s : List ℕ) → Tells w b → Done b s c → Tells (stand w (block s)) c
 tells-done w b c s h (set-up k a is) =
@@ -232,7 +230,7 @@ tells-done w b c s h (set-up k a is) =
     let by = subst (λ (bs : List (List ℕ)). SetBy s bs u) (sym (no-stages w (b .setup) (a .none) (h .setting))) (set-by s (a .substances .0)) in
     let q = subst SoundParts is g in
     subst (λ (x : Book). Tells (stand w (block s)) x) (sym is)
-    (subst (λ (x : Standing). Tells x (bookWith u (b .year) (b .blocks + 1))) (stand-one w s k)
+    (subst (λ (x : Standing). Tells x (bookWith u (b .year) (b .blocks + 1))) (stand-by w s (SetUp Materials) k)
     (tells-empty v u (b .year) (b .blocks + 1) (q .setup) (q .year) none (none-posted w b h none) (is-open w b h none) (is-set by)))
 tells-done w b c s h (described k a is) =
     let none = h .sound .year .none-before (stage.not-yet (b .setup .outline) (a .left)) in
@@ -243,11 +241,11 @@ tells-done w b c s h (described k a is) =
     let by = set-next (w .first) s (w .stages) (b .setup) had (h .sound .setup) a in
     let q = subst SoundParts is g in
     subst (λ (x : Book). Tells (stand w (block s)) x) (sym is)
-    (subst (λ (x : Standing). Tells x (bookWith u (b .year) (b .blocks + 1))) (stand-two w s k)
+    (subst (λ (x : Standing). Tells x (bookWith u (b .year) (b .blocks + 1))) (stand-by w s (SetUp Stage) k)
     (tells-empty v u (b .year) (b .blocks + 1) (q .setup) (q .year) none (none-posted w b h none) (is-open w b h none) (is-set by)))
 tells-done w b c s h (posted z k o e is) =
     subst (λ (x : Book). Tells (stand w (block s)) x) (sym is)
-    (subst (λ (x : Standing). Tells x (bookWith (b .setup) z (b .blocks + 1))) (stand-three w s k)
+    (subst (λ (x : Standing). Tells x (bookWith (b .setup) z (b .blocks + 1))) (stand-by w s Posts k)
     (tells-many w b z (postIn (bodyOf s)) (countOf s) (b .blocks + 1) h e))
 
 -- ---- a call, and a list of calls

@@ -5,7 +5,9 @@ use mathlib.Core.List.{List, [], _∷_}
 use Rattle.amounts.specs.Decline.{Answer, taken, checked, onTaken}
 use Rattle.layout.specs.Each.{listTo}
 use Rattle.layout.specs.Frame.{blockKind, countOf, bodyOf, frameChecks}
+use Rattle.layout.specs.Holds.{holdsOf}
 use Rattle.layout.specs.Posts.{postIn, ownChecks}
+use Rattle.layout.specs.declared.holds.Holds.the-variants.{Posts}
 use Rattle.book.specs.Block.{blockOn}
 use Rattle.book.specs.Site.{bookWith}
 use Rattle.book.specs.declared.site.Book.{Book}
@@ -24,7 +26,7 @@ singles s = listTo (countOf s) (λ i. post (postIn (bodyOf s) i))
 -- block more.
 abbrev pub BlockIsItsPosts : Type 0
 BlockIsItsPosts =
-    (b : Book) (s : List ℕ) → blockKind s ≡ 3
+    (b : Book) (s : List ℕ) → holdsOf (blockKind s) ≡ taken Posts
     → blockOn b s
     ≡ onTaken (checked (frameChecks (b .blocks) s) s) (λ _.
     onTaken (checked (ownChecks (b .setup .outline) (b .year .closed) (countOf s) (bodyOf s)) s) (λ _.

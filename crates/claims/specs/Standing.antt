@@ -1,13 +1,16 @@
 -- A list of calls, and what stands after it (document 01, "Treatment and report"): all that is summed is read from the bytes of the accepted calls.
 use Prim.Native.Nat.{ℕ, _+_}
-use mathlib.Core.Bool.{Bool, true, false, cond}
+use mathlib.Core.Bool.{Bool, true, false}
 use mathlib.Core.List.{List, [], _∷_, _++_, map}
-use lib.Dec.{eqb}
-use Rattle.amounts.specs.Decline.{Answer, isTaken, valueOr}
+use Rattle.amounts.specs.Decline.{Answer, taken, declined, isTaken, valueOr}
 use Rattle.layout.specs.Each.{listTo}
 use Rattle.layout.specs.Frame.{blockKind, countOf, bodyOf}
+use Rattle.layout.specs.Holds.{holdsOf}
 use Rattle.layout.specs.Posts.{postIn}
 use Rattle.plant.specs.Setup.{numbersIn, classesIn, contentsIn, countedAll}
+use Rattle.layout.specs.declared.holds.Holds.{Holds}
+use Rattle.layout.specs.declared.holds.Holds.the-variants.{SetUp, Posts}
+use Rattle.layout.specs.declared.holds.SetupPart.the-variants.{Materials, Stage}
 use Rattle.post.specs.Moves.{said}
 use Rattle.post.specs.declared.moves.Move.{Move}
 use Rattle.book.specs.Block.{blockOn}
@@ -57,13 +60,17 @@ nothing = record { first = []; stages = []; posts = [] }
 abbrev pub withPosts : Standing → List (List ℕ) → Standing
 withPosts w ps = record { first = w .first; stages = w .stages; posts = w .posts ++ ps }
 
+-- a block more, by what it holds; one of no kind is never accepted, and changes nothing
+abbrev pub withBlock : Standing → List ℕ → Answer Holds → Standing
+withBlock w s (taken (SetUp Materials)) = record { first = s; stages = w .stages; posts = w .posts }
+withBlock w s (taken (SetUp Stage)) = record { first = w .first; stages = w .stages ++ (s ∷ []); posts = w .posts }
+withBlock w s (taken Posts) = withPosts w (listTo (countOf s) (postIn (bodyOf s)))
+withBlock w s (declined n) = w
+
 -- "A post is accepted if its own call, or that of the block of posts holding it, isn't declined."
 abbrev pub stand : Standing → Call → Standing
 stand w (post s) = withPosts w (s ∷ [])
-stand w (block s) =
-    cond (eqb (blockKind s) 3) (withPosts w (listTo (countOf s) (postIn (bodyOf s))))
-    (cond (eqb (blockKind s) 2) (record { first = w .first; stages = w .stages ++ (s ∷ []); posts = w .posts })
-    (cond (eqb (blockKind s) 1) (record { first = s; stages = w .stages; posts = w .posts }) w))
+stand w (block s) = withBlock w s (holdsOf (blockKind s))
 
 -- after accepted calls
 unfoldable pub stood : Standing → List Call → Standing

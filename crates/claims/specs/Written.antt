@@ -5,17 +5,20 @@ use mathlib.Core.Bool.{true, false, cond}
 use mathlib.Core.List.{List, [], _∷_, _++_}
 use lib.Dec.{eqb}
 use lib.ListN.{length, drop}
-use Rattle.amounts.specs.Decline.{checked, isTaken, Check}
+use Rattle.amounts.specs.Decline.{Answer, taken, declined, Check, checked, onTaken, isTaken}
 use Rattle.layout.specs.Bytes.{padded}
 use Rattle.layout.specs.Each.{listTo}
 use Rattle.layout.specs.Frame.{blockKind, countOf, bodyOf, frameChecks, blockOf}
+use Rattle.layout.specs.Holds.{holdsOf}
 use Rattle.layout.specs.Outline.{freshOutline}
 use Rattle.layout.specs.Posts.{postIn, ownChecks}
+use Rattle.layout.specs.declared.holds.Holds as block
+use Rattle.layout.specs.declared.holds.Holds.the-variants.{SetUp, Posts}
 use Rattle.layout.specs.declared.outline.Outline.{Outline}
 use Rattle.post.specs.Moves.{wellFormed}
 use Rattle.writer.specs.Calls.{Call, setUp, post, end, run, accepted}
 use Rattle.writer.specs.Page.{Page, freshPage, ended}
-use Rattle.writer.specs.Tally.{kindChecks, outlineAfter}
+use Rattle.writer.specs.Tally.{partChecks, outlineAfter}
 
 -- ---- the journal
 
@@ -83,9 +86,14 @@ postsTaken (setUp kind count body ∷ calls) = postsTaken calls
 postsTaken (post s ∷ calls) = s ∷ postsTaken calls
 postsTaken (end ∷ calls) = postsTaken calls
 
--- the posts that a block holds: a kind 3 block its count of them, another none
+-- the posts that a block holds: a block of posts its count of them, another none
+abbrev pub postsBy : List ℕ → Answer block.Holds → List (List ℕ)
+postsBy s (taken (SetUp part)) = []
+postsBy s (taken Posts) = listTo (countOf s) (postIn (bodyOf s))
+postsBy s (declined n) = []
+
 abbrev pub postsIn : List ℕ → List (List ℕ)
-postsIn s = cond (eqb (blockKind s) 3) (listTo (countOf s) (postIn (bodyOf s))) []
+postsIn s = postsBy s (holdsOf (blockKind s))
 
 unfoldable pub postsInAll : List (List ℕ) → List (List ℕ)
 postsInAll [] = []
@@ -98,20 +106,25 @@ BlocksHoldPosts =
 
 -- ---- 3: the checks that need no book
 
--- 4 and 6 of a block's own bytes, by its kind and an outline
-abbrev pub bodyRows : Outline → List ℕ → List Check
-bodyRows o s =
-    cond (eqb (blockKind s) 3) (ownChecks o false (countOf s) (bodyOf s)) (kindChecks o (blockKind s) (countOf s) (bodyOf s))
+-- 4 and 6 of a block's own bytes, by an outline and what it holds
+abbrev pub bodyRows : Outline → List ℕ → block.Holds → List Check
+bodyRows o s (SetUp part) = partChecks o part (countOf s) (bodyOf s)
+bodyRows o s Posts = ownChecks o false (countOf s) (bodyOf s)
 
--- the outline after a block
+-- the outline after a block: only a part of the set-up changes it
+abbrev pub outlineBy : Outline → List ℕ → Answer block.Holds → Outline
+outlineBy o s (taken (SetUp part)) = outlineAfter o part (countOf s) (bodyOf s)
+outlineBy o s (taken Posts) = o
+outlineBy o s (declined n) = o
+
 abbrev pub outlinePast : Outline → List ℕ → Outline
-outlinePast o s = cond (eqb (blockKind s) 3) o (outlineAfter o (blockKind s) (countOf s) (bodyOf s))
+outlinePast o s = outlineBy o s (holdsOf (blockKind s))
 
 -- 1 to 3 by its place, 4 and 6 by the outline of the blocks before it, and 6 and 7 of each of its posts
 pub record Passes (place : ℕ) (o : Outline) (s : List ℕ) : Type 0 where
   pub frame : isTaken (checked (frameChecks place s) s) ≡ true
-  pub body : isTaken (checked (bodyRows o s) s) ≡ true
-  pub posts : blockKind s ≡ 3 → (i : ℕ) → i < countOf s → isTaken (wellFormed o (postIn (bodyOf s) i)) ≡ true
+  pub body : isTaken (onTaken (holdsOf (blockKind s)) (λ h. checked (bodyRows o s h) s)) ≡ true
+  pub posts : holdsOf (blockKind s) ≡ taken Posts → (i : ℕ) → i < countOf s → isTaken (wellFormed o (postIn (bodyOf s) i)) ≡ true
 
 abbrev pub AllPass : ℕ → Outline → List (List ℕ) → Type 0
 AllPass place o [] = Unit

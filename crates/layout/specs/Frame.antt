@@ -5,10 +5,12 @@ use mathlib.Core.List.{List, [], _∷_, _++_}
 use lib.Dec.{eqb}
 use lib.ListN.{length, getD, take, drop}
 use Rattle.amounts.specs.Decline as number
-use Rattle.amounts.specs.Decline.{Check, check}
-use Rattle.layout.specs.Bytes.{le, part, littleEndian, within}
+use Rattle.amounts.specs.Decline.{Answer, Check, check, checked, onTaken, isTaken}
+use Rattle.layout.specs.Bytes.{le, part, littleEndian}
 use Rattle.layout.specs.Each.{sumTo}
+use Rattle.layout.specs.Holds.{holdsOf}
 use Rattle.layout.specs.declared.frame.CheckSums.{CheckSums}
+use Rattle.layout.specs.declared.holds.Holds.{Holds}
 
 -- "0–3 "PRTR" in ASCII; 4 kind; 5 count; 6–7 blocks accepted so far; 8–507 body"
 abbrev pub hasTag : List ℕ → Bool
@@ -42,9 +44,14 @@ frameChecks blocks s =
     ∷ check (hasTag s) number.notABlock
     ∷ check (eqb (le 2 (drop 508 s)) (sumsOf s .plain)) number.checkSum
     ∷ check (eqb (le 2 (drop 510 s)) (sumsOf s .weighted)) number.checkSum
-    ∷ check (within 1 3 (blockKind s)) number.notNext
+    ∷ check (isTaken (holdsOf (blockKind s))) number.notNext
     ∷ check (eqb (le 2 (drop 6 s)) blocks) number.notNext
     ∷ []
+
+-- what a block that passes them holds
+unfoldable pub heldAt : ℕ → List ℕ → Answer Holds
+unfolding checked holdsOf
+heldAt blocks s = onTaken (checked (frameChecks blocks s) s) (λ s. holdsOf (blockKind s))
 
 -- ---- a block made
 

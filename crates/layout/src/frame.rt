@@ -4,8 +4,11 @@ ghost use Prim.Native.Nat.{_+_, _/_, _%_, _<_};
 ghost use lib.IntN.{pos};
 ghost use Rattle.amounts.specs.Decline.{checked};
 ghost use Rattle.layout.specs.Verdict.{verdictOf};
-ghost use Rattle.layout.specs.Frame.{hasTag, sumsOf, bodyOf, blockOf, frameChecks};
+ghost use Rattle.layout.specs.Frame.{hasTag, sumsOf, bodyOf, blockOf, frameChecks, heldAt};
+ghost use Rattle.layout.specs.Holds.{answer};
 use crate::bytes;
+use crate::holds;
+use crate::holds::HoldsRead;
 use crate::verdict::Verdict;
 use crate::verdict::row;
 use amounts::decline;
@@ -78,7 +81,7 @@ pub fn check_frame(number: u32, s: &[u8]) -> Verdict
     let sums = check_sums(s);
     let own = bytes::le16(s, 6) as u32;
     let next = row(own == number, decline::NOT_NEXT, Verdict::Accepted);
-    let kind = row(bytes::is_within(1, 3, s[4]), decline::NOT_NEXT, next);
+    let kind = row(holds::is_kind(s[4]), decline::NOT_NEXT, next);
     let weighted = row(
         bytes::le16(s, 510) == sums.weighted,
         decline::CHECK_SUM,
@@ -89,6 +92,16 @@ pub fn check_frame(number: u32, s: &[u8]) -> Verdict
         decline::CHECK_SUM,
         weighted,
     )
+}
+
+// Declines 1 to 3, or what the block holds.
+pub fn read_frame(number: u32, s: &[u8]) -> HoldsRead
+    ensures { λ r. ⌜ answer r ≡ heldAt number (now (s .entry)) ⌝ }
+{
+    if let Verdict::Declined(d) = check_frame(number, s) {
+        return HoldsRead::Declined(d);
+    }
+    holds::holds_of(s[4])
 }
 
 fn low(x: u16) -> u8

@@ -1,6 +1,7 @@
-// What the bytes of a block say without a set-up or a book: its frame, its turn, and the places of its posts.
+// What a block's frame and the bodies of its kinds say, their turns and limits, without a book.
 pub mod bytes;
 pub mod frame;
+pub mod holds;
 pub mod outline;
 pub mod posts;
 pub mod verdict;

@@ -10,10 +10,11 @@ use Rattle.amounts.specs.Decline.{Answer, taken, checked, onTaken, valueOr}
 use Rattle.layout.specs.Frame.{bodyOf, blockOf}
 use Rattle.layout.specs.Posts.{postSize}
 use Rattle.layout.specs.Verdict.{verdictOf}
+use Rattle.layout.specs.declared.holds.SetupPart.{SetupPart}
 use Rattle.layout.specs.declared.verdict.Verdict.{Verdict}
 use Rattle.layout.specs.Bytes.{placed}
 use Rattle.writer.specs.Tally as tally
-use Rattle.writer.specs.Tally.{setUpChecks, postAnswer}
+use Rattle.writer.specs.Tally.{partOfKind, setUpChecks, postAnswer}
 use Rattle.writer.specs.declared.draft.Draft.{Draft}
 use Rattle.writer.specs.declared.tally.Tally.{Tally}
 
@@ -70,11 +71,15 @@ unfoldable pub postOn : Page → List ℕ → Answer Page
 unfolding postAnswer posted
 postOn p s = onTaken (postAnswer (length (p .bytes)) (p .draft .tally) s) (λ _. taken (posted p s))
 
+-- the page with a part of the set-up more
+abbrev pub withPart : Page → ℕ → SetupPart → ℕ → List ℕ → Page
+withPart p kind part count body =
+    withBlock p (blockOf kind count (p .draft .tally .blocks) body) (draftOf (tally.setUp (p .draft .tally) part count body) (p .draft .block))
+
 unfoldable pub setUpOn : Page → ℕ → ℕ → List ℕ → Answer Page
-unfolding checked tally.setUp blockOf
+unfolding partOfKind checked tally.setUp blockOf
 setUpOn p kind count body =
-    checked (setUpChecks (length (p .bytes)) (p .draft .tally) kind count body)
-    (withBlock p (blockOf kind count (p .draft .tally .blocks) body) (draftOf (tally.setUp (p .draft .tally) kind count body) (p .draft .block)))
+    onTaken (partOfKind kind) (λ part. checked (setUpChecks (length (p .bytes)) (p .draft .tally) part count body) (withPart p kind part count body))
 
 -- "ending with no post waiting writes nothing"
 unfoldable pub ended : Page → Page

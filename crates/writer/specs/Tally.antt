@@ -4,12 +4,16 @@ use mathlib.Core.Path.{_≡_}
 use mathlib.Core.Bool.{Bool, true, _&&_, cond}
 use mathlib.Core.List.{List, [], _∷_, _++_}
 use lib.Dec.{eqb, leb, ltb}
-use Rattle.amounts.specs.Decline.{Answer, taken, Check, check, checked, onTaken, valueOr, outOfTurn, layout, noRoom}
+use Rattle.amounts.specs.Decline.{Answer, taken, declined, Check, check, checked, onTaken, valueOr, outOfTurn, layout, noRoom}
+use Rattle.layout.specs.Holds.{holdsOf}
 use Rattle.layout.specs.Outline.{freshOutline, withDescribed, mayPost}
 use Rattle.plant.specs.Setup.{outlineOf, setupChecks}
-use Rattle.layout.specs.Bytes.{within}
 use Rattle.plant.specs.Stage.{stageChecks}
 use Rattle.layout.specs.Verdict.{verdictOf}
+use Rattle.layout.specs.declared.holds.Holds.{Holds}
+use Rattle.layout.specs.declared.holds.Holds.the-variants.{SetUp, Posts}
+use Rattle.layout.specs.declared.holds.SetupPart.{SetupPart}
+use Rattle.layout.specs.declared.holds.SetupPart.the-variants.{Materials, Stage}
 use Rattle.layout.specs.declared.outline.Outline.{Outline}
 use Rattle.layout.specs.declared.verdict.Verdict.{Verdict}
 use Rattle.post.specs.Kind.{Row}
@@ -29,13 +33,24 @@ freshTally = tallyOf freshOutline 0 0
 abbrev pub isFree : ℕ → Tally → Bool
 isFree room t = ltb (t .blocks) 65536 && leb (t .blocks * 512 + 512) room
 
--- 4 and 6 of a set-up block by its kind: 1, the substances and materials; 2, a stage
-abbrev pub kindChecks : Outline → ℕ → ℕ → List ℕ → List Check
-kindChecks o kind count body = cond (eqb kind 1) (setupChecks o count body) (stageChecks o count body)
+-- "A set-up kind other than 1 or 2 is a 6 in any turn": what holds posts, or nothing that is known, is no part of the set-up
+abbrev pub asPart : Answer Holds → Answer SetupPart
+asPart (taken (SetUp part)) = taken part
+asPart (taken Posts) = declined layout
+asPart (declined n) = declined layout
 
--- "A set-up kind other than 1 or 2 is a 6 in any turn; a body of another length is a 6 after 4", and 13 "after all others"
-abbrev pub setUpChecks : ℕ → Tally → ℕ → ℕ → List ℕ → List Check
-setUpChecks room t kind count body = check (within 1 2 kind) layout ∷ (kindChecks (t .outline) kind count body ++ (check (isFree room t) noRoom ∷ []))
+unfoldable pub partOfKind : ℕ → Answer SetupPart
+unfolding holdsOf
+partOfKind kind = asPart (holdsOf kind)
+
+-- 4 and 6 of a part of the set-up; "a body of another length is a 6 after 4"
+abbrev pub partChecks : Outline → SetupPart → ℕ → List ℕ → List Check
+partChecks o Materials count body = setupChecks o count body
+partChecks o Stage count body = stageChecks o count body
+
+-- and 13 "after all others"
+abbrev pub setUpChecks : ℕ → Tally → SetupPart → ℕ → List ℕ → List Check
+setUpChecks room t part count body = partChecks (t .outline) part count body ++ (check (isFree room t) noRoom ∷ [])
 
 -- 13 is asked of "a post that begins a block"
 abbrev pub mayBegin : ℕ → Tally → Bool
@@ -62,18 +77,23 @@ posted t = cond (eqb (t .waiting) 9) (finished t) (tallyOf (t .outline) (t .wait
 unfoldable pub ended : Tally → Tally
 ended t = cond (eqb (t .waiting) 0) t (finished t)
 
--- the outline after a set-up block
-abbrev pub outlineAfter : Outline → ℕ → ℕ → List ℕ → Outline
-outlineAfter o kind count body = cond (eqb kind 1) (outlineOf count body) (withDescribed o count)
+-- the outline after a part of the set-up
+abbrev pub outlineAfter : Outline → SetupPart → ℕ → List ℕ → Outline
+outlineAfter o Materials count body = outlineOf count body
+outlineAfter o Stage count body = withDescribed o count
 
-unfoldable pub setUp : Tally → ℕ → ℕ → List ℕ → Tally
-setUp t kind count body = tallyOf (outlineAfter (t .outline) kind count body) (t .waiting) (t .blocks + 1)
+unfoldable pub setUp : Tally → SetupPart → ℕ → List ℕ → Tally
+setUp t part count body = tallyOf (outlineAfter (t .outline) part count body) (t .waiting) (t .blocks + 1)
 
 -- ---- each call on a tally
 
-unfoldable pub setUpOn : ℕ → Tally → ℕ → ℕ → List ℕ → Answer Tally
+unfoldable pub partOn : ℕ → Tally → SetupPart → ℕ → List ℕ → Answer Tally
 unfolding checked setUp
-setUpOn room t kind count body = checked (setUpChecks room t kind count body) (setUp t kind count body)
+partOn room t part count body = checked (setUpChecks room t part count body) (setUp t part count body)
+
+unfoldable pub setUpOn : ℕ → Tally → ℕ → ℕ → List ℕ → Answer Tally
+unfolding partOfKind partOn
+setUpOn room t kind count body = onTaken (partOfKind kind) (λ part. partOn room t part count body)
 
 unfoldable pub postOn : ℕ → Tally → List ℕ → Answer Tally
 unfolding postAnswer posted

@@ -4,11 +4,17 @@ ghost use Prim.Native.Nat.{_<_};
 ghost use Rattle.amounts.specs.Decline.{taken, checked};
 ghost use mathlib.Core.Bool.{true};
 ghost use Rattle.layout.specs.Outline.{mayDescribe};
+ghost use Rattle.layout.specs.declared.holds.SetupPart.the-variants.{Stage};
 ghost use Rattle.layout.specs.Verdict.{verdictOf};
-ghost use Rattle.layout.specs.declared.verdict.Verdict.the-variants.{Accepted};
-ghost use Rattle.writer.specs.Tally.{freshTally, isFree, kindChecks, setUpChecks, mayBegin, postAnswer, finished, ended, outlineAfter, setUpOn, postOn, Sound, Counts};
+ghost use Rattle.layout.specs.declared.verdict.Verdict.the-variants.{Accepted, Declined};
+ghost use Rattle.writer.specs.Tally.{freshTally, isFree, partChecks, setUpChecks, mayBegin, postAnswer, finished, ended, outlineAfter};
+ghost use Rattle.writer.specs.Tally.{partOn, setUpOn, postOn, Sound, Counts};
 use amounts::decline;
-use layout::bytes;
+use amounts::decline::Decline;
+use layout::holds;
+use layout::holds::Holds;
+use layout::holds::HoldsRead;
+use layout::holds::SetupPart;
 use layout::outline;
 use layout::outline::Outline;
 use layout::verdict::Verdict;
@@ -64,24 +70,21 @@ fn may_begin(room: usize, t: Tally) -> bool
     is_free(room, t)
 }
 
-fn check_kind(o: Outline, kind: u8, count: u8, body: &[u8]) -> Verdict
-    ensures { λ r. ⌜ r ≡ verdictOf (checked (kindChecks o kind count (now (body .entry))) (tt {0})) ⌝ }
+fn check_part(o: Outline, part: SetupPart, count: u8, body: &[u8]) -> Verdict
+    ensures { λ r. ⌜ r ≡ verdictOf (checked (partChecks o part count (now (body .entry))) (tt {0})) ⌝ }
 {
-    if kind == 1 {
-        return setup::check_setup(o, count, body);
+    match part {
+        SetupPart::Materials => setup::check_setup(o, count, body),
+        SetupPart::Stage => stage::check_stage(o, count, body),
     }
-    stage::check_stage(o, count, body)
 }
 
-// A set-up block's verdict, in a buffer of so many bytes.
-fn check_set_up(room: usize, t: Tally, kind: u8, count: u8, body: &[u8]) -> Verdict
-    ensures { λ r. ⌜ r ≡ verdictOf (checked (setUpChecks room t kind count (now (body .entry))) (tt {0})) ⌝ }
+// The verdict on a part of the set-up, in a buffer of so many bytes.
+fn check_set_up(room: usize, t: Tally, part: SetupPart, count: u8, body: &[u8]) -> Verdict
+    ensures { λ r. ⌜ r ≡ verdictOf (checked (setUpChecks room t part count (now (body .entry))) (tt {0})) ⌝ }
 {
-    if !bytes::is_within(1, 2, kind) {
-        return Verdict::Declined(decline::LAYOUT);
-    }
     let o = t.outline;
-    if let Verdict::Declined(d) = check_kind(o, kind, count, body) {
+    if let Verdict::Declined(d) = check_part(o, part, count, body) {
         return Verdict::Declined(d);
     }
     row(is_free(room, t), decline::NO_ROOM, Verdict::Accepted)
@@ -117,34 +120,40 @@ fn finish(t: Tally) -> Counted
     }
 }
 
-fn outline_after(o: Outline, kind: u8, count: u8, body: &[u8]) -> Outline
-    requires { ⌜ ((kind ≡ 1 → ⊥) → mayDescribe o count ≡ true) ⌝ }
-    ensures { λ r. ⌜ r ≡ outlineAfter o kind count (now (body .entry)) ⌝ }
+fn outline_after(o: Outline, part: SetupPart, count: u8, body: &[u8]) -> Outline
+    requires { ⌜ (part ≡ Stage → mayDescribe o count ≡ true) ⌝ }
+    ensures { λ r. ⌜ r ≡ outlineAfter o part count (now (body .entry)) ⌝ }
 {
-    if kind == 1 {
-        return setup::outline_of(count, body);
-    }
-    Outline {
-        substances: o.substances,
-        materials: o.materials,
-        stages: o.stages,
-        described: o.described + 1,
+    match part {
+        SetupPart::Materials => setup::outline_of(count, body),
+        SetupPart::Stage => Outline {
+            substances: o.substances,
+            materials: o.materials,
+            stages: o.stages,
+            described: o.described + 1,
+        },
     }
 }
 
-// A set-up block of any kind, count and body.
-pub fn set_up(room: usize, t: Tally, kind: u8, count: u8, body: &[u8]) -> Counted
-    requires { ⌜ Sound room t ⌝ }
-    ensures { λ r. ⌜ Counts room t (setUpOn room t kind count (now (body .entry))) (r .verdict) (r .tally) ⌝ }
+fn refused(t: Tally, decline: Decline) -> Counted
+    ensures { λ r. ⌜ r ≡ record { verdict = Declined decline; tally = t } ⌝ }
 {
-    if let Verdict::Declined(d) = check_set_up(room, t, kind, count, body) {
-        return Counted {
-            verdict: Verdict::Declined(d),
-            tally: t,
-        };
+    Counted {
+        verdict: Verdict::Declined(decline),
+        tally: t,
+    }
+}
+
+// A part of the set-up, of any count and body.
+fn set_up_part(room: usize, t: Tally, part: SetupPart, count: u8, body: &[u8]) -> Counted
+    requires { ⌜ Sound room t ⌝ }
+    ensures { λ r. ⌜ Counts room t (partOn room t part count (now (body .entry))) (r .verdict) (r .tally) ⌝ }
+{
+    if let Verdict::Declined(d) = check_set_up(room, t, part, count, body) {
+        return refused(t, d);
     }
     let o = t.outline;
-    let outline = outline_after(o, kind, count, body);
+    let outline = outline_after(o, part, count, body);
     Counted {
         verdict: Verdict::Accepted,
         tally: Tally {
@@ -155,16 +164,27 @@ pub fn set_up(room: usize, t: Tally, kind: u8, count: u8, body: &[u8]) -> Counte
     }
 }
 
+// A set-up block of any kind, count and body. One that holds posts is none, nor is one of no kind.
+pub fn set_up(room: usize, t: Tally, kind: u8, count: u8, body: &[u8]) -> Counted
+    requires { ⌜ Sound room t ⌝ }
+    ensures { λ r. ⌜ Counts room t (setUpOn room t kind count (now (body .entry))) (r .verdict) (r .tally) ⌝ }
+{
+    match holds::holds_of(kind) {
+        HoldsRead::Declined(_) => refused(t, decline::LAYOUT),
+        HoldsRead::Known(h) => match h {
+            Holds::Posts => refused(t, decline::LAYOUT),
+            Holds::SetUp(part) => set_up_part(room, t, part, count, body),
+        },
+    }
+}
+
 // A post of any bytes.
 pub fn post(room: usize, t: Tally, s: &[u8]) -> Counted
     requires { ⌜ Sound room t ⌝ }
     ensures { λ r. ⌜ Counts room t (postOn room t (now (s .entry))) (r .verdict) (r .tally) ⌝ }
 {
     if let Verdict::Declined(d) = check_post(room, t, s) {
-        return Counted {
-            verdict: Verdict::Declined(d),
-            tally: t,
-        };
+        return refused(t, d);
     }
     if t.waiting == 9 {
         return finish(t);

@@ -1,27 +1,26 @@
--- A block on a book: its frame, what its kind does, and that the book stays sound. Assumes nothing.
-use mathlib.Core.Path.{_≡_, refl, sym, ap, subst, _∙_}
-use mathlib.Core.Bool.{Bool, true, false, cond}
+-- A block on a book: its frame, what it holds, and that the book stays sound. Assumes nothing.
+use mathlib.Core.Path.{_≡_, sym, ap, subst, _∙_}
 use mathlib.Core.List.{List}
 use Prim.Native.Nat.{ℕ, _+_, _<_}
 use native.Mathlib.Omega.{arith}
-use borrow.Author.Tests.{eqb-true, eq-eqb, ne-eqb}
-use lib.Dec.{eqb}
 use lib.ListN.{getD}
-use Rattle.amounts.specs.Decline.{taken, declined, checked}
+use Rattle.amounts.specs.Decline.{taken, declined}
 use Rattle.amounts.proofs.decline.Laws.{was-taken}
-use Rattle.layout.specs.Frame.{blockKind, countOf, bodyOf, frameChecks}
+use Rattle.layout.specs.Frame.{blockKind, countOf, bodyOf, heldAt}
+use Rattle.layout.specs.Holds.{holdsOf}
 use Rattle.layout.specs.Posts.{postIn}
 use Rattle.plant.specs.Setup.{setupOf}
+use Rattle.layout.specs.declared.holds.Holds.{Holds}
+use Rattle.layout.specs.declared.holds.Holds.the-variants.{SetUp, Posts}
+use Rattle.layout.specs.declared.holds.SetupPart.the-variants.{Materials, Stage}
 use Rattle.plant.specs.declared.setup.Setup.{Setup}
-use Rattle.layout.proofs.frame.Laws.{Framed, framed, number-small}
+use Rattle.layout.proofs.frame.Laws.{Framed, held-framed, number-small}
 use Rattle.layout.proofs.posts.Laws.{Owned}
-use Rattle.book.specs.Answer.{outcome}
-use Rattle.book.specs.Block.{setupBy, onSetup, onYear, byKind, blockOn}
+use Rattle.book.specs.Block.{byHolds, blockOn}
 use Rattle.book.specs.Posts.{takenTo, postsOn}
 use Rattle.book.specs.Setup.{setUpOn}
 use Rattle.book.specs.Site.{Sound, SoundSetup, SoundYear, bookWith}
 use Rattle.book.specs.Stage.{withStage, describedOn}
-use Rattle.book.specs.declared.answer.Answered.{Answered}
 use Rattle.book.specs.declared.site.Book.{Book}
 use Rattle.book.specs.declared.site.Year.{Year}
 use Rattle.book.proofs.posts.Laws.{many-sound, posts-taken}
@@ -32,74 +31,56 @@ use Rattle.book.proofs.stage.Laws as stage
 -- ---- through the frame
 
 module _ (b : Book) (s : List ℕ) where
-  pub not-framed : (n : ℕ) → checked (frameChecks (b .blocks) s) s ≡ declined n → blockOn b s ≡ declined n
+  pub not-framed : (n : ℕ) → heldAt (b .blocks) s ≡ declined n → blockOn b s ≡ declined n
   unfolding blockOn
   not-framed n e = rw e
 
-  pub is-framed : checked (frameChecks (b .blocks) s) s ≡ taken s → blockOn b s ≡ byKind b s
+  pub is-framed : (h : Holds) → heldAt (b .blocks) s ≡ taken h → blockOn b s ≡ byHolds b s h
   unfolding blockOn
-  is-framed e = rw e
+  is-framed h e = rw e
 
-  pub by-posts : blockKind s ≡ 3 → byKind b s ≡ onYear b (postsOn (b .setup) (b .year) (countOf s) (bodyOf s))
-  by-posts k = rw (eq-eqb (blockKind s) 3 k)
+-- ---- what a block that is taken tells, by what it holds
 
-  -- a block of posts answers as they do
-  pub as-posts : {r : Answered} → checked (frameChecks (b .blocks) s) s ≡ taken s → blockKind s ≡ 3
-      → r ≡ outcome b (onYear b (postsOn (b .setup) (b .year) (countOf s) (bodyOf s))) → r ≡ outcome b (blockOn b s)
-  as-posts f k e = e ∙ ap (outcome b) (sym (is-framed f ∙ by-posts k))
-
-  pub by-setup : (blockKind s ≡ 3 → ⊥) → byKind b s ≡ onSetup b (setupBy (b .setup) (blockKind s) (countOf s) (bodyOf s))
-  by-setup k = rw (ne-eqb (blockKind s) 3 k)
-
--- ---- what a block that is taken tells, by its kind
-
--- kind 1, kind 2, and kind 3
 pub data Done (b : Book) (s : List ℕ) (c : Book) : Type 0 where
-  set-up : blockKind s ≡ 1 → first.Accepts (b .setup .outline) (countOf s) (bodyOf s) → c ≡ bookWith (setupOf (countOf s) (bodyOf s)) (b .year) (b .blocks + 1) → Done b s c
-  described : blockKind s ≡ 2 → stage.Accepts (b .setup .outline) (countOf s) (bodyOf s) → c ≡ bookWith (withStage (b .setup) (countOf s) (bodyOf s)) (b .year) (b .blocks + 1) → Done b s c
-  posted : (z : Year) → blockKind s ≡ 3 → Owned (b .setup .outline) (b .year .closed) (countOf s) (bodyOf s)
+  set-up : holdsOf (blockKind s) ≡ taken (SetUp Materials) → first.Accepts (b .setup .outline) (countOf s) (bodyOf s)
+      → c ≡ bookWith (setupOf (countOf s) (bodyOf s)) (b .year) (b .blocks + 1) → Done b s c
+  described : holdsOf (blockKind s) ≡ taken (SetUp Stage) → stage.Accepts (b .setup .outline) (countOf s) (bodyOf s)
+      → c ≡ bookWith (withStage (b .setup) (countOf s) (bodyOf s)) (b .year) (b .blocks + 1) → Done b s c
+  posted : (z : Year) → holdsOf (blockKind s) ≡ taken Posts → Owned (b .setup .outline) (b .year .closed) (countOf s) (bodyOf s)
       → takenTo (b .setup) (b .year) (postIn (bodyOf s)) (countOf s) ≡ taken z → c ≡ bookWith (b .setup) z (b .blocks + 1) → Done b s c
 
 module _ (b c : Book) (s : List ℕ) where
-  one : (u : Setup) → blockKind s ≡ 1 → setUpOn (b .setup) (countOf s) (bodyOf s) ≡ taken u → c ≡ bookWith u (b .year) (b .blocks + 1) → Done b s c
+  one : (u : Setup) → holdsOf (blockKind s) ≡ taken (SetUp Materials) → setUpOn (b .setup) (countOf s) (bodyOf s) ≡ taken u
+      → c ≡ bookWith u (b .year) (b .blocks + 1) → Done b s c
   unfolding setUpOn
   one u k e is =
       let a = first.accepted (b .setup .outline) (countOf s) (bodyOf s) (setupOf (countOf s) (bodyOf s)) u e in
       set-up k (a .0) (is ∙ ap (λ (v : Setup). bookWith v (b .year) (b .blocks + 1)) (a .1))
 
-  two : (u : Setup) → blockKind s ≡ 2 → describedOn (b .setup) (countOf s) (bodyOf s) ≡ taken u → c ≡ bookWith u (b .year) (b .blocks + 1) → Done b s c
+  two : (u : Setup) → holdsOf (blockKind s) ≡ taken (SetUp Stage) → describedOn (b .setup) (countOf s) (bodyOf s) ≡ taken u
+      → c ≡ bookWith u (b .year) (b .blocks + 1) → Done b s c
   unfolding describedOn
   two u k e is =
       let a = stage.accepted (b .setup .outline) (countOf s) (bodyOf s) (withStage (b .setup) (countOf s) (bodyOf s)) u e in
       described k (a .0) (is ∙ ap (λ (v : Setup). bookWith v (b .year) (b .blocks + 1)) (a .1))
 
-  three : (z : Year) → blockKind s ≡ 3 → postsOn (b .setup) (b .year) (countOf s) (bodyOf s) ≡ taken z → c ≡ bookWith (b .setup) z (b .blocks + 1) → Done b s c
+  three : (z : Year) → holdsOf (blockKind s) ≡ taken Posts → postsOn (b .setup) (b .year) (countOf s) (bodyOf s) ≡ taken z
+      → c ≡ bookWith (b .setup) z (b .blocks + 1) → Done b s c
   three z k e is =
       let a = posts-taken (b .setup) (b .year) (countOf s) (bodyOf s) z e in
       posted z k (a .0) (a .1) is
 
-  setups : (x : Bool) (y : Bool) (u : Setup) → eqb (blockKind s) 1 ≡ x → eqb (blockKind s) 2 ≡ y
-      → cond x (setUpOn (b .setup) (countOf s) (bodyOf s)) (cond y (describedOn (b .setup) (countOf s) (bodyOf s)) (declined 3)) ≡ taken u
-      → c ≡ bookWith u (b .year) (b .blocks + 1) → Done b s c
-  setups true y u p q e is = one u (eqb-true (blockKind s) 1 p) e is
-  setups false true u p q e is = two u (eqb-true (blockKind s) 2 q) e is
-  setups false false u p q e is = let z : _≡_ {A = ℕ} 0 1 = cc in absurd (omega arith)
-
-  kinds : (x : Bool) → eqb (blockKind s) 3 ≡ x
-      → cond x (onYear b (postsOn (b .setup) (b .year) (countOf s) (bodyOf s))) (onSetup b (setupBy (b .setup) (blockKind s) (countOf s) (bodyOf s))) ≡ taken c → Done b s c
-  kinds true p e =
-      let a = was-taken (postsOn (b .setup) (b .year) (countOf s) (bodyOf s)) _ c e in
-      three (a .0) (eqb-true (blockKind s) 3 p) (a .1) cc
-  kinds false p e =
-      let a = was-taken (setupBy (b .setup) (blockKind s) (countOf s) (bodyOf s)) _ c e in
-      setups (eqb (blockKind s) 1) (eqb (blockKind s) 2) (a .0) refl refl (a .1) cc
+  done-by : (h : Holds) → holdsOf (blockKind s) ≡ taken h → byHolds b s h ≡ taken c → Done b s c
+  done-by (SetUp Materials) k e = let a = was-taken (setUpOn (b .setup) (countOf s) (bodyOf s)) _ c e in one (a .0) k (a .1) cc
+  done-by (SetUp Stage) k e = let a = was-taken (describedOn (b .setup) (countOf s) (bodyOf s)) _ c e in two (a .0) k (a .1) cc
+  done-by Posts k e = let a = was-taken (postsOn (b .setup) (b .year) (countOf s) (bodyOf s)) _ c e in three (a .0) k (a .1) cc
 
   pub block-done : blockOn b s ≡ taken c → Framed (b .blocks) s × Done b s c
   unfolding blockOn
   block-done e =
-      let a = was-taken (checked (frameChecks (b .blocks) s) s) (byKind b) c e in
-      let f = framed (b .blocks) s s (a .0) (a .1) in
-      (f .0, kinds (eqb (blockKind s) 3) refl (ap (byKind b) (sym (f .1)) ∙ a .2))
+      let a = was-taken (heldAt (b .blocks) s) (byHolds b s) c e in
+      let f = held-framed (b .blocks) s (a .0) (a .1) in
+      (f .0, done-by (a .0) (f .1) (a .2))
 
 -- ---- the book stays sound
 

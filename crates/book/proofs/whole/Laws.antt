@@ -9,9 +9,11 @@ use borrow.Author.Tests.{eq-eqb, ne-eqb}
 use native.Mathlib.Decide.{ℕ-discrete, decLe}
 use lib.ListN.{length, getD, take, drop, length-drop, drop-of-length-le}
 use lib.Seq.{take-all, drop-drop}
-use Rattle.amounts.specs.Decline.{Answer, taken, declined, checked}
+use Rattle.amounts.specs.Decline.{Answer, taken, declined}
 use Rattle.amounts.specs.declared.decline.Decline.{Decline}
-use Rattle.layout.specs.Frame.{blockKind, countOf, bodyOf, frameChecks}
+use Rattle.layout.specs.Frame.{countOf, bodyOf, heldAt}
+use Rattle.layout.specs.declared.holds.Holds.the-variants.{SetUp, Posts}
+use Rattle.layout.specs.declared.holds.SetupPart.{SetupPart}
 use Rattle.plant.specs.declared.setup.Setup.{Setup}
 use Rattle.layout.specs.declared.verdict.Verdict.{Verdict}
 use Rattle.layout.specs.declared.verdict.Verdict.the-variants.{Accepted, Declined}
@@ -22,7 +24,7 @@ use Rattle.book.specs.Steps.{guarded, Ran}
 use Rattle.book.specs.Whole.{partsTo, partsIn, read, refused, onward, readAll}
 use Rattle.book.specs.declared.site.Book.{Book}
 use Rattle.book.specs.declared.site.Year.{Year}
-use Rattle.book.proofs.block.Laws.{is-framed, by-posts, by-setup, block-more, block-sound}
+use Rattle.book.proofs.block.Laws.{is-framed, block-more, block-sound}
 use Rattle.book.proofs.posts.Laws.{ran-was-taken, ran-was-declined}
 
 -- ---- parts
@@ -138,26 +140,20 @@ upto-all s b at u h =
 
 -- ---- a block in place
 
-module _ (u : Setup) (y : Year) (n : ℕ) (s : List ℕ) (framed : checked (frameChecks n s) s ≡ taken s) where
+module _ (u : Setup) (y : Year) (n : ℕ) (s : List ℕ) where
   abbrev book : Book
   book = bookWith u y n
 
-  posts-is : blockKind s ≡ 3 → blockOn book s ≡ onYear book (postsOn u y (countOf s) (bodyOf s))
-  posts-is k = is-framed book s framed ∙ by-posts book s k
+  module _ (held : heldAt n s ≡ taken Posts) where
+    pub posts-refused : (v : Verdict) (d : Decline) (z : Year) → Ran (postsOn u y (countOf s) (bodyOf s)) v z → v ≡ Declined d → blockOn book s ≡ declined (d .number)
+    posts-refused v d z r e = is-framed book s Posts held ∙ ap (onYear book) (ran-was-declined _ v d z r e)
 
-  pub posts-refused : (v : Verdict) (d : Decline) (z : Year) → blockKind s ≡ 3 → Ran (postsOn u y (countOf s) (bodyOf s)) v z → v ≡ Declined d → blockOn book s ≡ declined (d .number)
-  posts-refused v d z k r e = posts-is k ∙ ap (onYear book) (ran-was-declined _ v d z r e)
+    pub posts-entered : (v : Verdict) (z : Year) → Ran (postsOn u y (countOf s) (bodyOf s)) v z → v ≡ Accepted → blockOn book s ≡ taken (bookWith u z (n + 1))
+    posts-entered v z r e = is-framed book s Posts held ∙ ap (onYear book) (ran-was-taken _ v z r e)
 
-  pub posts-entered : (v : Verdict) (z : Year) → blockKind s ≡ 3 → Ran (postsOn u y (countOf s) (bodyOf s)) v z → v ≡ Accepted → blockOn book s ≡ taken (bookWith u z (n + 1))
-  posts-entered v z k r e = posts-is k ∙ ap (onYear book) (ran-was-taken _ v z r e)
+  module _ (part : SetupPart) (held : heldAt n s ≡ taken (SetUp part)) where
+    pub setup-refused : (v : Verdict) (d : Decline) (w : Setup) → guarded v w ≡ setupBy u part (countOf s) (bodyOf s) → v ≡ Declined d → blockOn book s ≡ declined (d .number)
+    setup-refused v d w r e = is-framed book s (SetUp part) held ∙ ap (onSetup book) (sym r ∙ ap (λ (x : Verdict). guarded x w) e)
 
-  setup-is : (blockKind s ≡ 3 → ⊥) → blockOn book s ≡ onSetup book (setupBy u (blockKind s) (countOf s) (bodyOf s))
-  setup-is k = is-framed book s framed ∙ by-setup book s k
-
-  pub setup-refused : (v : Verdict) (d : Decline) (w : Setup) → (blockKind s ≡ 3 → ⊥) → guarded v w ≡ setupBy u (blockKind s) (countOf s) (bodyOf s) → v ≡ Declined d
-      → blockOn book s ≡ declined (d .number)
-  setup-refused v d w k r e = setup-is k ∙ ap (onSetup book) (sym r ∙ ap (λ (x : Verdict). guarded x w) e)
-
-  pub setup-entered : (v : Verdict) (w : Setup) → (blockKind s ≡ 3 → ⊥) → guarded v w ≡ setupBy u (blockKind s) (countOf s) (bodyOf s) → v ≡ Accepted
-      → blockOn book s ≡ taken (bookWith w y (n + 1))
-  setup-entered v w k r e = setup-is k ∙ ap (onSetup book) (sym r ∙ ap (λ (x : Verdict). guarded x w) e)
+    pub setup-entered : (v : Verdict) (w : Setup) → guarded v w ≡ setupBy u part (countOf s) (bodyOf s) → v ≡ Accepted → blockOn book s ≡ taken (bookWith w y (n + 1))
+    setup-entered v w r e = is-framed book s (SetUp part) held ∙ ap (onSetup book) (sym r ∙ ap (λ (x : Verdict). guarded x w) e)

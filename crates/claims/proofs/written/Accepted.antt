@@ -2,24 +2,26 @@
 use mathlib.Core.Path.{_≡_, refl, sym, ap, _∙_}
 use mathlib.Core.Bool.{Bool, true, false, true≢false, cond}
 use mathlib.Core.List.{List, [], _∷_}
-use Prim.Native.Nat.{ℕ, _≤_}
+use Prim.Native.Nat.{ℕ}
+use native.Mathlib.Omega.{arith}
 use borrow.Author.Tests.{eqb-true, eq-eqb}
 use lib.Dec.{eqb}
 use lib.ListN.{length}
 use Rattle.amounts.specs.Decline.{Answer, taken, declined, check, checked, onTaken, isTaken, outOfTurn, layout, range, noRoom}
 use Rattle.amounts.proofs.decline.Laws.{was-taken}
-use Rattle.layout.specs.Frame.{blockOf}
+use Rattle.layout.specs.Holds.{holdsOf}
 use Rattle.layout.specs.Outline.{mayPost}
+use Rattle.layout.specs.declared.holds.Holds.{Holds}
+use Rattle.layout.specs.declared.holds.Holds.the-variants.{SetUp, Posts}
+use Rattle.layout.specs.declared.holds.SetupPart.{SetupPart}
 use Rattle.layout.specs.declared.outline.Outline.{Outline}
 use Rattle.layout.proofs.Checked.{AllPass, passed, pass-both}
-use Rattle.layout.proofs.bytes.Laws.{within-true}
 use Rattle.post.specs.Fields.{postAt}
 use Rattle.post.specs.Kind.{fieldsFit, kindOf}
 use Rattle.post.specs.Moves.{laidOut, floatsFit, wellFormed}
-use Rattle.writer.specs.Page.{Page, draftOf, withBlock, posted, postOn, setUpOn}
-use Rattle.writer.specs.Tally as tally
-use Rattle.writer.specs.Tally.{isFree, kindChecks, setUpChecks, mayBegin, postAnswer}
-use Rattle.writer.proofs.tally.Laws.{Free, is-free, early}
+use Rattle.writer.specs.Page.{Page, posted, postOn, withPart, setUpOn}
+use Rattle.writer.specs.Tally.{isFree, partOfKind, partChecks, setUpChecks, mayBegin, postAnswer}
+use Rattle.writer.proofs.tally.Laws.{Free, is-free, early, has-part}
 use Rattle.writer.specs.declared.tally.Tally.{Tally}
 
 -- an answer that is taken has a value
@@ -29,30 +31,30 @@ has-value (declined n) e = absurd (true≢false (sym e))
 
 -- ---- a set-up block
 
-pub record SetUpTaken (room : ℕ) (t : Tally) (kind count : ℕ) (body : List ℕ) : Type 0 where
-  pub low : 1 ≤ kind
-  pub high : kind ≤ 2
-  pub rows : AllPass (kindChecks (t .outline) kind count body)
+-- a part of the set-up is no posts
+pub not-posts : {a : Answer Holds} (part : SetupPart) → a ≡ taken (SetUp part) → a ≡ taken Posts → ⊥
+not-posts part e f = let z : _≡_ {A = ℕ} 0 1 = cc in absurd (omega arith)
+
+pub record SetUpTaken (room : ℕ) (t : Tally) (kind : ℕ) (part : SetupPart) (count : ℕ) (body : List ℕ) : Type 0 where
+  pub holds : holdsOf kind ≡ taken (SetUp part)
+  pub rows : AllPass (partChecks (t .outline) part count body)
   pub not-yet : mayPost (t .outline) ≡ false
   pub long : length body ≡ 500
   pub free : Free room t
 
--- the page after it
-abbrev pub setUpPage : Page → ℕ → ℕ → List ℕ → Page
-setUpPage p kind count body =
-    withBlock p (blockOf kind count (p .draft .tally .blocks) body) (draftOf (tally.setUp (p .draft .tally) kind count body) (p .draft .block))
-
 pub set-up-taken : (p q : Page) (kind count : ℕ) (body : List ℕ) → setUpOn p kind count body ≡ taken q
-    → SetUpTaken (length (p .bytes)) (p .draft .tally) kind count body × (q ≡ setUpPage p kind count body)
+    → (part : SetupPart) × SetUpTaken (length (p .bytes)) (p .draft .tally) kind part count body × (q ≡ withPart p kind part count body)
 unfolding setUpOn
 set-up-taken p q kind count body e =
     let t : Tally = p .draft .tally in
     let room : ℕ = length (p .bytes) in
-    let h = passed (setUpChecks room t kind count body) (setUpPage p kind count body) q e in
-    let k = within-true 1 2 kind (h .0 .0) in
-    let both = pass-both (kindChecks (t .outline) kind count body) (check (isFree room t) noRoom ∷ []) (h .0 .1) in
-    let soon = early (t .outline) kind count body (both .0) in (
-      record { low = k .0; high = k .1; rows = both .0; not-yet = soon .0; long = soon .1; free = is-free room t (both .1 .0) },
+    let a = was-taken (partOfKind kind) (λ part. checked (setUpChecks room t part count body) (withPart p kind part count body)) q e in
+    let part = a .0 in
+    let h = passed (setUpChecks room t part count body) (withPart p kind part count body) q (a .2) in
+    let both = pass-both (partChecks (t .outline) part count body) (check (isFree room t) noRoom ∷ []) (h .0) in
+    let soon = early (t .outline) part count body (both .0) in (
+      part,
+      record { holds = has-part kind part (a .1); rows = both .0; not-yet = soon .0; long = soon .1; free = is-free room t (both .1 .0) },
       h .1,
     )
 

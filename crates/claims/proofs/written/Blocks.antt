@@ -1,27 +1,31 @@
 -- Blocks in turn, and what a set-up block and a block of posts that are made tell and pass. Assumes nothing.
 use mathlib.Core.Path.{_≡_, refl, sym, ap, subst, _∙_}
-use mathlib.Core.Bool.{Bool, true, false, cond}
+use mathlib.Core.Bool.{true, false}
 use mathlib.Core.List.{List, [], _∷_, _++_, append-assoc, append-nil}
 use Prim.Native.Nat.{ℕ, zero, suc, _+_, _-_, _*_, _≤_, _<_}
 use native.Mathlib.Omega.{arith}
-use borrow.Author.Tests.{eq-eqb, ne-eqb, le-leb}
-use lib.Dec.{eqb}
+use borrow.Author.Tests.{eq-eqb, le-leb}
 use lib.ListN.{length, getD, drop, length-append}
 use lib.Seq.{drop-at}
-use Rattle.amounts.specs.Decline.{Check, checked, isTaken}
+use Rattle.amounts.specs.Decline.{Answer, taken, Check, checked, onTaken, isTaken}
 use Rattle.layout.specs.Bytes.{padded, allZero, within}
 use Rattle.layout.specs.Each.{listTo}
 use Rattle.layout.specs.Frame.{blockKind, countOf, bodyOf, blockOf}
+use Rattle.layout.specs.Holds.{holdsOf}
 use Rattle.layout.specs.Outline.{mayPost}
 use Rattle.layout.specs.Posts.{postIn, ownChecks}
+use Rattle.layout.specs.declared.holds.Holds.{Holds}
+use Rattle.layout.specs.declared.holds.Holds.the-variants.{SetUp, Posts}
+use Rattle.layout.specs.declared.holds.SetupPart.{SetupPart}
 use Rattle.layout.specs.declared.outline.Outline.{Outline}
 use Rattle.layout.proofs.Checked as table
 use Rattle.layout.proofs.Checked.{pass-taken}
-use Rattle.layout.proofs.frame.Made.{kind-made, count-made, body-made, made-passes}
+use Rattle.layout.proofs.frame.Made.{held-made, count-made, body-made, made-passes}
+use Rattle.layout.proofs.holds.Laws.{of-posts}
 use Rattle.post.specs.Moves.{wellFormed}
-use Rattle.writer.specs.Tally.{kindChecks, outlineAfter}
-use Rattle.claims.specs.Written.{joined, postsIn, postsInAll, bodyRows, outlinePast, Passes, AllPass}
-use Rattle.claims.proofs.written.Accepted.{formed-long}
+use Rattle.writer.specs.Tally.{partChecks, outlineAfter}
+use Rattle.claims.specs.Written.{joined, postsBy, postsIn, postsInAll, bodyRows, outlineBy, outlinePast, Passes, AllPass}
+use Rattle.claims.proofs.written.Accepted.{not-posts, formed-long}
 use Rattle.claims.proofs.written.Places.{zeros, zeros-long, zeros-zero, EachLong, joined-long, part-is, parts-are}
 
 -- ---- one block more
@@ -57,38 +61,38 @@ posts-last (x ∷ blocks) s = ap (λ (r : List (List ℕ)). postsIn x ++ r) (pos
 within-is : (low high n : ℕ) → low ≤ n → n ≤ high → within low high n ≡ true
 within-is low high n l h = rw (le-leb low n l, le-leb n high h)
 
-module _ (kind count number : ℕ) (body : List ℕ) (low : 1 ≤ kind) (high : kind ≤ 2) where
+module _ (kind count number : ℕ) (body : List ℕ) (part : SetupPart) (holds : holdsOf kind ≡ taken (SetUp part)) where
   abbrev set : List ℕ
   set = blockOf kind count number body
 
-  not-posts : eqb (blockKind set) 3 ≡ false
-  not-posts = ne-eqb (blockKind set) 3 (λ e. omega (arith, kind-made kind count number body))
+  of-part : holdsOf (blockKind set) ≡ taken (SetUp part)
+  of-part = held-made kind count number body (SetUp part) holds
 
   pub set-up-holds : postsIn set ≡ []
-  set-up-holds = ap (λ (t : Bool). cond t (listTo (countOf set) (postIn (bodyOf set))) []) not-posts
+  set-up-holds = ap (postsBy set) of-part
 
   module _ (o : Outline) (long : length body ≡ 500) where
-    -- its kind, count and body are those that it was made of
-    told : {A : Type 0} (f : ℕ → ℕ → List ℕ → A) → f (blockKind set) (countOf set) (bodyOf set) ≡ f kind count body
+    -- its count and body are those that it was made of
+    told : {A : Type 0} (f : ℕ → List ℕ → A) → f (countOf set) (bodyOf set) ≡ f count body
     told f =
-        ap (λ (k : ℕ). f k (countOf set) (bodyOf set)) (kind-made kind count number body)
-        ∙ ap (λ (n : ℕ). f kind n (bodyOf set)) (count-made kind count number body)
-        ∙ ap (λ (s : List ℕ). f kind count s) (body-made kind count number body long)
+        ap (λ (n : ℕ). f n (bodyOf set)) (count-made kind count number body)
+        ∙ ap (λ (s : List ℕ). f count s) (body-made kind count number body long)
 
-    pub set-up-outline : outlinePast o set ≡ outlineAfter o kind count body
-    set-up-outline = ap (λ (t : Bool). cond t o (outlineAfter o (blockKind set) (countOf set) (bodyOf set))) not-posts ∙ told (outlineAfter o)
+    pub set-up-outline : outlinePast o set ≡ outlineAfter o part count body
+    set-up-outline = ap (outlineBy o set) of-part ∙ told (outlineAfter o part)
 
-    rows-are : bodyRows o set ≡ kindChecks o kind count body
-    rows-are =
-        ap (λ (t : Bool). cond t (ownChecks o false (countOf set) (bodyOf set)) (kindChecks o (blockKind set) (countOf set) (bodyOf set))) not-posts
-        ∙ told (kindChecks o)
+    rows-are : bodyRows o set (SetUp part) ≡ partChecks o part count body
+    rows-are = told (partChecks o part)
 
-    pub set-up-passes : number < 65536 → table.AllPass (kindChecks o kind count body) → Passes number o set
+    pub set-up-passes : number < 65536 → table.AllPass (partChecks o part count body) → Passes number o set
     set-up-passes small rows =
         record {
-          frame = ap isTaken (made-passes kind count number body long set (within-is 1 3 kind low (omega arith)) small);
-          body = ap (λ (r : List Check). isTaken (checked r set)) rows-are ∙ ap isTaken (pass-taken (kindChecks o kind count body) set rows);
-          posts = λ e. absurd (omega (arith, kind-made kind count number body));
+          frame = ap isTaken (made-passes kind count number body long set (ap isTaken holds) small);
+          body =
+              ap (λ (a : Answer Holds). isTaken (onTaken a (λ h. checked (bodyRows o set h) set))) of-part
+              ∙ ap (λ (r : List Check). isTaken (checked r set)) rows-are
+              ∙ ap isTaken (pass-taken (partChecks o part count body) set rows);
+          posts = λ e. absurd (not-posts part of-part e);
         }
 
 -- ---- a block of posts
@@ -120,11 +124,11 @@ module _ (number : ℕ) (posts : List (List ℕ)) where
   abbrev pub blockOfPosts : List ℕ
   blockOfPosts = blockOf 3 (length posts) number (postsBody posts)
 
-  of-posts : eqb (blockKind blockOfPosts) 3 ≡ true
-  of-posts = eq-eqb (blockKind blockOfPosts) 3 (kind-made 3 (length posts) number (postsBody posts))
+  is-posts : holdsOf (blockKind blockOfPosts) ≡ taken Posts
+  is-posts = held-made 3 (length posts) number (postsBody posts) Posts of-posts
 
   pub posts-outline : (o : Outline) → outlinePast o blockOfPosts ≡ o
-  posts-outline o = ap (λ (t : Bool). cond t o (outlineAfter o (blockKind blockOfPosts) (countOf blockOfPosts) (bodyOf blockOfPosts))) of-posts
+  posts-outline o = ap (outlineBy o blockOfPosts) is-posts
 
   module _ (each : EachLong 48 posts) (few : length posts ≤ 10) where
     joined-is : length (joined posts) ≡ length posts * 48
@@ -141,7 +145,7 @@ module _ (number : ℕ) (posts : List (List ℕ)) where
 
     pub posts-held : postsIn blockOfPosts ≡ posts
     posts-held =
-        ap (λ (t : Bool). cond t (listTo (countOf blockOfPosts) (postIn (bodyOf blockOfPosts))) []) of-posts
+        ap (postsBy blockOfPosts) is-posts
         ∙ ap (λ (n : ℕ). listTo n (postIn (bodyOf blockOfPosts))) count-is
         ∙ ap (λ (s : List ℕ). listTo (length posts) (postIn s)) body-is
         ∙ parts-are 48 posts (zeros (500 - length (joined posts))) each
@@ -153,10 +157,9 @@ module _ (number : ℕ) (posts : List (List ℕ)) where
         ap allZero (drop-at (joined posts) z (length posts * 48) joined-is) ∙ zeros-zero (500 - length (joined posts))
 
     module _ (o : Outline) (turn : mayPost o ≡ true) (some : 1 ≤ length posts) where
-      own-rows : bodyRows o blockOfPosts ≡ ownChecks o false (length posts) (postsBody posts)
+      own-rows : bodyRows o blockOfPosts Posts ≡ ownChecks o false (length posts) (postsBody posts)
       own-rows =
-          ap (λ (t : Bool). cond t (ownChecks o false (countOf blockOfPosts) (bodyOf blockOfPosts)) (kindChecks o (blockKind blockOfPosts) (countOf blockOfPosts) (bodyOf blockOfPosts))) of-posts
-          ∙ ap (λ (n : ℕ). ownChecks o false n (bodyOf blockOfPosts)) count-is
+          ap (λ (n : ℕ). ownChecks o false n (bodyOf blockOfPosts)) count-is
           ∙ ap (λ (s : List ℕ). ownChecks o false (length posts) s) body-is
 
       own-pass : table.AllPass (ownChecks o false (length posts) (postsBody posts))
@@ -168,8 +171,11 @@ module _ (number : ℕ) (posts : List (List ℕ)) where
       pub posts-pass : number < 65536 → EachFormed o posts → Passes number o blockOfPosts
       posts-pass small formed =
           record {
-            frame = ap isTaken (made-passes 3 (length posts) number (postsBody posts) body-long blockOfPosts refl small);
-            body = ap (λ (r : List Check). isTaken (checked r blockOfPosts)) own-rows ∙ ap isTaken (pass-taken (ownChecks o false (length posts) (postsBody posts)) blockOfPosts own-pass);
+            frame = ap isTaken (made-passes 3 (length posts) number (postsBody posts) body-long blockOfPosts (ap isTaken of-posts) small);
+            body =
+                ap (λ (a : Answer Holds). isTaken (onTaken a (λ h. checked (bodyRows o blockOfPosts h) blockOfPosts))) is-posts
+                ∙ ap (λ (r : List Check). isTaken (checked r blockOfPosts)) own-rows
+                ∙ ap isTaken (pass-taken (ownChecks o false (length posts) (postsBody posts)) blockOfPosts own-pass);
             posts = λ e i l.
                 let within : i < length posts = omega (arith, count-is) in
                 ap (λ (s : List ℕ). isTaken (wellFormed o s)) (post-at i within) ∙ formed-at o posts formed i within;

@@ -14,7 +14,7 @@ use Rattle.writer.specs.Calls.{Call, setUp, post, end, answerTo, run, keep, acc
 use Rattle.writer.specs.Page as page
 use Rattle.writer.specs.Page.{Page, freshPage}
 use Rattle.claims.specs.Written.{Sheet, ofPosts, sheets, framedFrom, blocksOf, endedCalls, postsTaken}
-use Rattle.claims.proofs.written.Accepted.{PostTaken, setUpPage, set-up-taken, post-taken}
+use Rattle.claims.proofs.written.Accepted.{PostTaken, set-up-taken, post-taken}
 use Rattle.claims.proofs.written.Shows.{Shows, shows-fresh}
 use Rattle.claims.proofs.written.Steps.{shows-set-up, shows-tenth, shows-waiting, shows-same, shows-ended}
 use Rattle.claims.proofs.written.Sheets.{sheetsBy, waitingBy, postBy, waitingAfter, sheets-first, sheets-last, framed-long, framed-append, taken-first}
@@ -32,12 +32,12 @@ module _ (lent : List ℕ) (posts blocks : List (List ℕ)) (p q : Page) where
   unfolding framedFrom
   call-set-up [] kind count body h e =
       let a = set-up-taken p q kind count body e in
-      subst (λ (z : Page). Shows lent (posts ++ []) (blocksBy blocks [] (setUp kind count body)) [] z) (sym (a .1))
-      (subst (λ (n : ℕ). Shows lent (posts ++ []) (blocks ++ (blockOf kind count n body ∷ [])) [] (setUpPage p kind count body)) (h .number)
-      (subst (λ (l : List (List ℕ)). Shows lent l (blocks ++ (blockOf kind count (p .draft .tally .blocks) body ∷ [])) [] (setUpPage p kind count body)) (sym (append-nil posts))
-      (shows-set-up lent posts blocks p kind count body h (a .0))))
+      subst (λ (z : Page). Shows lent (posts ++ []) (blocksBy blocks [] (setUp kind count body)) [] z) (sym (a .2))
+      (subst (λ (n : ℕ). Shows lent (posts ++ []) (blocks ++ (blockOf kind count n body ∷ [])) [] (page.withPart p kind (a .0) count body)) (h .number)
+      (subst (λ (l : List (List ℕ)). Shows lent l (blocks ++ (blockOf kind count (p .draft .tally .blocks) body ∷ [])) [] (page.withPart p kind (a .0) count body)) (sym (append-nil posts))
+      (shows-set-up lent posts blocks p kind (a .0) count body h (a .1))))
   call-set-up (w ∷ ws) kind count body h e =
-      let a = set-up-taken p q kind count body e .0 in
+      let a = set-up-taken p q kind count body e .1 in
       absurd (true≢false (sym (h .begun (omega arith) .in-turn) ∙ a .not-yet))
 
   module _ (waiting : List (List ℕ)) (h : Shows lent posts blocks waiting p) where

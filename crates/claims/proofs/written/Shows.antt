@@ -9,6 +9,7 @@ use lib.Seq.{take-at, drop-drop}
 use Rattle.amounts.specs.Decline.{isTaken}
 use Rattle.layout.specs.Frame.{bodyOf, blockOf}
 use Rattle.layout.specs.Outline.{freshOutline, mayPost}
+use Rattle.layout.specs.declared.holds.SetupPart.{SetupPart}
 use Rattle.layout.specs.declared.outline.Outline.{Outline}
 use Rattle.post.specs.Moves.{wellFormed}
 use Rattle.layout.specs.Bytes.{placed}
@@ -143,15 +144,16 @@ told-block posts blocks waiting o next x h same onward passes =
     }
 
 -- a set-up block, while no post waits
-pub told-set-up : (posts blocks : List (List ℕ)) (room : ℕ) (t : Tally) (kind count : ℕ) (body : List ℕ) → Told posts blocks [] (t .outline) → t .blocks ≡ length blocks
-    → SetUpTaken room t kind count body → Told posts (blocks ++ (blockOf kind count (t .blocks) body ∷ [])) [] (outlineAfter (t .outline) kind count body)
-told-set-up posts blocks room t kind count body h number a =
+pub told-set-up : (posts blocks : List (List ℕ)) (room : ℕ) (t : Tally) (kind : ℕ) (part : SetupPart) (count : ℕ) (body : List ℕ) → Told posts blocks [] (t .outline)
+    → t .blocks ≡ length blocks → SetUpTaken room t kind part count body
+    → Told posts (blocks ++ (blockOf kind count (t .blocks) body ∷ [])) [] (outlineAfter (t .outline) part count body)
+told-set-up posts blocks room t kind part count body h number a =
     let n : ℕ = t .blocks in
     let o : Outline = t .outline in
     let x : List ℕ = blockOf kind count n body in
-    let passes = set-up-passes kind count n body (a .low) (a .high) o (a .long) (a .free .number) (a .rows) in
-    told-block posts blocks [] o (outlineAfter o kind count body) x h (set-up-holds kind count n body (a .low) (a .high))
-    (set-up-outline kind count n body (a .low) (a .high) o (a .long)) (subst (λ (k : ℕ). Passes k o x) number passes)
+    let passes = set-up-passes kind count n body part (a .holds) o (a .long) (a .free .number) (a .rows) in
+    told-block posts blocks [] o (outlineAfter o part count body) x h (set-up-holds kind count n body part (a .holds))
+    (set-up-outline kind count n body part (a .holds) o (a .long)) (subst (λ (k : ℕ). Passes k o x) number passes)
 
 -- the posts that wait become a block
 pub told-finished : (posts blocks waiting : List (List ℕ)) (o : Outline) → Told posts blocks waiting o → 1 ≤ length waiting → length waiting ≤ 10 → mayPost o ≡ true

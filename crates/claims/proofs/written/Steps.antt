@@ -9,17 +9,18 @@ use borrow.Author.Tests.{eq-eqb, ne-eqb}
 use lib.Dec.{eqb}
 use lib.ListN.{length, length-append}
 use Rattle.layout.specs.Frame.{bodyOf, blockOf}
+use Rattle.layout.specs.declared.holds.SetupPart.{SetupPart}
 use Rattle.layout.specs.declared.outline.Outline.{Outline}
 use Rattle.layout.proofs.frame.Made.{made-long}
 use Rattle.writer.specs.Calls.{setUp}
 use Rattle.layout.specs.Bytes.{placed}
 use Rattle.writer.specs.Page as page
-use Rattle.writer.specs.Page.{Page, pageOf, draftOf, finished, postsBlock, withPost, posted}
+use Rattle.writer.specs.Page.{Page, pageOf, draftOf, withPart, finished, postsBlock, withPost, posted}
 use Rattle.writer.specs.Tally as tally
 use Rattle.writer.specs.Tally.{tallyOf}
 use Rattle.writer.specs.declared.tally.Tally.{Tally}
 use Rattle.claims.specs.Written.{joined}
-use Rattle.claims.proofs.written.Accepted.{SetUpTaken, PostTaken, setUpPage}
+use Rattle.claims.proofs.written.Accepted.{SetUpTaken, PostTaken}
 use Rattle.claims.proofs.written.Blocks.{each-long, postsBody, blockOfPosts, body-long}
 use Rattle.claims.proofs.written.Places.{joined-long}
 use Rattle.claims.proofs.written.Shows.{Filled, same-length, filled-next, drafted, drafted-none, drafted-next, drafted-body}
@@ -27,9 +28,9 @@ use Rattle.claims.proofs.written.Shows.{Told, told-post, told-set-up, t
 
 -- ---- a set-up block
 
-module _ (lent : List ℕ) (posts blocks : List (List ℕ)) (p : Page) (kind count : ℕ) (body : List ℕ) where
-  pub shows-set-up : Shows lent posts blocks [] p → SetUpTaken (length (p .bytes)) (p .draft .tally) kind count body
-      → Shows lent posts (blocks ++ (blockOf kind count (p .draft .tally .blocks) body ∷ [])) [] (setUpPage p kind count body)
+module _ (lent : List ℕ) (posts blocks : List (List ℕ)) (p : Page) (kind : ℕ) (part : SetupPart) (count : ℕ) (body : List ℕ) where
+  pub shows-set-up : Shows lent posts blocks [] p → SetUpTaken (length (p .bytes)) (p .draft .tally) kind part count body
+      → Shows lent posts (blocks ++ (blockOf kind count (p .draft .tally .blocks) body ∷ [])) [] (withPart p kind part count body)
   unfolding tally.setUp
   shows-set-up h a =
       let t : Tally = p .draft .tally in
@@ -43,7 +44,7 @@ module _ (lent : List ℕ) (posts blocks : List (List ℕ)) (p : Page) (kind cou
         few = h .few;
         block = h .block;
         begun = λ l. absurd (omega arith);
-        told = told-set-up posts blocks (length (p .bytes)) t kind count body (h .told) (h .number) a;
+        told = told-set-up posts blocks (length (p .bytes)) t kind part count body (h .told) (h .number) a;
       }
 
 -- ---- posts become a block

@@ -7,9 +7,11 @@ use native.Mathlib.Omega.{arith}
 use borrow.Author.Tests.{eq-eqb}
 use lib.ListN.{length, take, drop, length-append}
 use lib.Seq.{take-at, drop-at, drop-drop}
-use Rattle.amounts.specs.Decline.{taken, checked}
-use Rattle.layout.specs.Bytes.{le, littleEndian, within}
+use Rattle.amounts.specs.Decline.{taken, checked, isTaken}
+use Rattle.layout.specs.Bytes.{le, littleEndian}
 use Rattle.layout.specs.Frame.{hasTag, blockKind, countOf, bodyOf, plainSum, weightedSum, sumsOf, frameChecks, headOf, summed, blockOf}
+use Rattle.layout.specs.Holds.{holdsOf}
+use Rattle.layout.specs.declared.holds.Holds.{Holds}
 
 -- two bytes that store a number tell it again, whatever stands behind them
 pub two-told : (n : ℕ) (s : List ℕ) → n < 65536 → le 2 (littleEndian 2 n ++ s) ≡ n
@@ -54,6 +56,10 @@ module _ (kind count number : ℕ) (body : List ℕ) where
   unfolding blockOf summed
   kind-made = refl
 
+  -- it holds what its kind holds
+  pub held-made : (h : Holds) → holdsOf kind ≡ taken h → holdsOf (blockKind made) ≡ taken h
+  held-made h e = ap holdsOf kind-made ∙ e
+
   pub count-made : countOf made ≡ count
   unfolding blockOf summed
   count-made = refl
@@ -88,7 +94,7 @@ module _ (kind count number : ℕ) (body : List ℕ) where
     weighted-made = weighted-told (headOf kind count number ++ body) before-long
 
     -- 1 to 3
-    pub made-passes : {A : Type 0} (a : A) → within 1 3 kind ≡ true → number < 65536 → checked (frameChecks number made) a ≡ taken a
+    pub made-passes : {A : Type 0} (a : A) → isTaken (holdsOf kind) ≡ true → number < 65536 → checked (frameChecks number made) a ≡ taken a
     unfolding checked
     made-passes a k n =
-        rw (eq-eqb _ _ made-long, tag-made, eq-eqb _ _ plain-made, eq-eqb _ _ weighted-made, ap (within 1 3) kind-made ∙ k, eq-eqb _ _ (number-made n))
+        rw (eq-eqb _ _ made-long, tag-made, eq-eqb _ _ plain-made, eq-eqb _ _ weighted-made, ap (λ (n : ℕ). isTaken (holdsOf n)) kind-made ∙ k, eq-eqb _ _ (number-made n))

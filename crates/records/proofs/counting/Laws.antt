@@ -11,6 +11,7 @@ use Rattle.amounts.specs.Decline.{Answer, taken, declined, Check, check, checke
 use Rattle.amounts.specs.declared.decline.Decline.{Decline}
 use Rattle.layout.specs.Frame.{blockOf}
 use Rattle.layout.specs.Verdict.{verdictOf}
+use Rattle.layout.specs.declared.holds.SetupPart.{SetupPart}
 use Rattle.layout.specs.declared.verdict.Verdict.{Verdict}
 use Rattle.layout.specs.declared.verdict.Verdict.the-variants.{Accepted, Declined}
 use Rattle.post.specs.Kind.{Row}
@@ -18,7 +19,7 @@ use Rattle.writer.specs.Calls as calls
 use Rattle.layout.specs.Bytes.{placed}
 use Rattle.writer.specs.Page as pages
 use Rattle.writer.specs.Page.{Page}
-use Rattle.writer.specs.Tally.{setUpChecks, postAnswer, finished, posted, ended, setUp, setUpOn, postOn, Sound, Counts}
+use Rattle.writer.specs.Tally.{partOfKind, setUpChecks, postAnswer, finished, posted, ended, setUp, partOn, setUpOn, postOn, Sound, Counts}
 use Rattle.writer.specs.declared.tally.Tally.{Tally}
 use Rattle.layout.proofs.bytes.Placed.{placed-long, placed-out}
 use Rattle.records.specs.Counting.{recordCounted}
@@ -114,11 +115,24 @@ ended-reached p = go (eqb (own p .waiting) 0)
     go true = record { long = refl; tally = refl }
     go false = record { long = length-placed (p .bytes) (p .filled) _; tally = refl }
 
+set-up-alike : (p : Page) (kind count : ℕ) (body : List ℕ) → Alike (length (p .bytes)) (pages.setUpOn p kind count body) (setUpOn (length (p .bytes)) (own p) kind count body)
+unfolding pages.setUpOn setUpOn partOn
+set-up-alike p kind count body = go (partOfKind kind)
+  where
+    room : ℕ
+    room = length (p .bytes)
+
+    go : (a : Answer SetupPart)
+        → Alike room (onTaken a (λ part. checked (setUpChecks room (own p) part count body) (pages.withPart p kind part count body)))
+        (onTaken a (λ part. partOn room (own p) part count body))
+    go (taken part) =
+        alike-checked room (setUpChecks room (own p) part count body) _ (setUp (own p) part count body)
+        (record { long = length-placed (p .bytes) (p .filled) (blockOf kind count (own p .blocks) body); tally = refl })
+    go (declined n) = refl
+
 alike-own : (p : Page) (r : Recorded) → Alike (length (p .bytes)) (recordOn p r) (recordCounted (length (p .bytes)) (own p) r)
-unfolding pages.setUpOn pages.postOn setUpOn postOn
-alike-own p (call (calls.setUp kind count body)) =
-    alike-checked (length (p .bytes)) (setUpChecks (length (p .bytes)) (own p) kind count body) _ (setUp (own p) kind count body)
-    (record { long = length-placed (p .bytes) (p .filled) (blockOf kind count (own p .blocks) body); tally = refl })
+unfolding pages.postOn postOn
+alike-own p (call (calls.setUp kind count body)) = set-up-alike p kind count body
 alike-own p (call (calls.post s)) = alike-after (length (p .bytes)) (postAnswer (length (p .bytes)) (own p) s) (pages.posted p s) (posted (own p)) (posted-reached p s)
 alike-own p (call calls.end) = ended-reached p
 alike-own p malformed = refl

@@ -6,20 +6,21 @@ use native.Mathlib.Omega.{arith}
 use borrow.Author.Tests.{eq-eqb, ne-eqb}
 use lib.ListN.{length, take, drop, replicate, length-replicate}
 use lib.Seq.{take-at, drop-at}
-use Rattle.amounts.specs.Decline.{Answer, taken, declined, Check, onTaken, valueOr}
+use Rattle.amounts.specs.Decline.{Answer, taken, declined, Check, checked, onTaken, valueOr}
 use Rattle.amounts.specs.declared.decline.Decline.{Decline}
 use Rattle.layout.proofs.Checked.{AllPass, passed, pass-both, pass-taken}
 use Rattle.layout.proofs.verdict.Laws.{declines, accepts}
 use Rattle.layout.specs.Frame.{bodyOf, blockOf}
 use Rattle.layout.specs.Verdict.{verdictOf}
+use Rattle.layout.specs.declared.holds.SetupPart.{SetupPart}
 use Rattle.layout.specs.declared.verdict.Verdict.the-variants.{Accepted, Declined}
 use Rattle.post.specs.Kind.{Row}
 use Rattle.layout.proofs.bytes.Placed.{placed-in}
 use Rattle.writer.proofs.tally.Laws.{tally-fresh, early, posted-finishes, posted-joins, set-up-free, post-begun, end-begun}
 use Rattle.layout.specs.Bytes.{placed}
-use Rattle.writer.specs.Page.{Page, pageOf, draftOf, freshDraft, freshPage, withPost, finished, posted, postOn, setUpOn, ended, Sound, Answers}
+use Rattle.writer.specs.Page.{Page, pageOf, draftOf, freshDraft, freshPage, withPost, withPart, finished, posted, postOn, setUpOn, ended, Sound, Answers}
 use Rattle.writer.specs.Tally as tally
-use Rattle.writer.specs.Tally.{kindChecks, setUpChecks, postAnswer, Counts}
+use Rattle.writer.specs.Tally.{partOfKind, partChecks, setUpChecks, postAnswer, Counts}
 use Rattle.writer.specs.declared.tally.Tally.{Tally}
 
 -- nothing is filled, and no post waits
@@ -56,35 +57,66 @@ module _ (p : Page) (sound : Sound p) (kind count : ℕ) (body : List ℕ) where
   abbrev t : Tally
   t = p .draft .tally
 
-  abbrev rows : List Check
-  rows = setUpChecks (length (p .bytes)) t kind count body
+  abbrev room : ℕ
+  room = length (p .bytes)
 
-  pub set-up-refused : (d : Decline) (q : Tally) → Counts (length (p .bytes)) t (tally.setUpOn (length (p .bytes)) t kind count body) (Declined d) q
-      → Answers p (setUpOn p kind count body) (Declined d) p
-  unfolding setUpOn tally.setUpOn
-  set-up-refused d q c = refused p (setUpOn p kind count body) d sound (declines (tally.setUp t kind count body) _ rows d (c .verdict))
+  -- a kind that is no part of the set-up is declined on a page as on its tally, and so is a part that its checks decline
+  pub set-up-refused : (d : Decline) (q : Tally) → Counts room t (tally.setUpOn room t kind count body) (Declined d) q → Answers p (setUpOn p kind count body) (Declined d) p
+  unfolding setUpOn tally.setUpOn tally.partOn
+  set-up-refused d q c = refused p (setUpOn p kind count body) d sound (go (partOfKind kind) (c .verdict))
+    where
+      go : (a : Answer SetupPart) → Declined d ≡ verdictOf (onTaken a (λ part. tally.partOn room t part count body))
+          → onTaken a (λ part. checked (setUpChecks room t part count body) (withPart p kind part count body)) ≡ declined (d .number)
+      go (taken part) e = declines (tally.setUp t part count body) _ (setUpChecks room t part count body) d e
+      go (declined n) e = cc
 
-  module _ (q : Tally) (c : Counts (length (p .bytes)) t (tally.setUpOn (length (p .bytes)) t kind count body) Accepted q) where
-    pub set-up-passes : AllPass rows
+  module _ (q : Tally) (c : Counts room t (tally.setUpOn room t kind count body) Accepted q) where
+    -- a kind that is accepted is a part of the set-up
+    set-up-part : (part : SetupPart) × (partOfKind kind ≡ taken part) × (Accepted ≡ verdictOf (tally.partOn room t part count body))
     unfolding tally.setUpOn
-    set-up-passes = passed rows (tt {0}) (tt {0}) (accepts (tally.setUp t kind count body) (tt {0}) rows (c .verdict)) .0
+    set-up-part = go (partOfKind kind) (c .verdict)
+      where
+        go : (a : Answer SetupPart) → Accepted ≡ verdictOf (onTaken a (λ part. tally.partOn room t part count body))
+            → (part : SetupPart) × (a ≡ taken part) × (Accepted ≡ verdictOf (tally.partOn room t part count body))
+        go (taken part) e = (part, refl, e)
+        go (declined n) e = let z : _≡_ {A = ℕ} 0 1 = cc in absurd (omega arith)
+
+    abbrev part : SetupPart
+    part = set-up-part .0
+
+    abbrev rows : List Check
+    rows = setUpChecks room t part count body
+
+    set-up-passes : AllPass rows
+    unfolding tally.partOn
+    set-up-passes = passed rows (tt {0}) (tt {0}) (accepts (tally.setUp t part count body) (tt {0}) rows (set-up-part .2)) .0
 
     set-up-long : length body ≡ 500
-    set-up-long = early (t .outline) kind count body (pass-both (kindChecks (t .outline) kind count body) _ (set-up-passes .1) .0) .1
+    set-up-long = early (t .outline) part count body (pass-both (partChecks (t .outline) part count body) _ set-up-passes .0) .1
 
-    pub set-up-room : (t .blocks < 65536) × (p .filled + 512 ≤ length (p .bytes))
+    pub set-up-room : (t .blocks < 65536) × (p .filled + 512 ≤ room)
     set-up-room =
-        let free = set-up-free (length (p .bytes)) t (sound .counted) kind count body set-up-passes in
+        let free = set-up-free room t (sound .counted) part count body set-up-passes in
         (free .number, omega (arith, free .fits, sound .filled-is))
 
-    set-up-is : q ≡ tally.setUp t kind count body
-    unfolding tally.setUpOn
-    set-up-is = c .after ∙ ap (valueOr t) (pass-taken rows (tally.setUp t kind count body) set-up-passes)
+    set-up-is : q ≡ tally.setUp t part count body
+    unfolding tally.setUpOn tally.partOn
+    set-up-is =
+        c .after
+        ∙ ap (λ (a : Answer SetupPart). valueOr t (onTaken a (λ x. tally.partOn room t x count body))) (set-up-part .1)
+        ∙ ap (valueOr t) (pass-taken rows (tally.setUp t part count body) set-up-passes)
+
+    -- the page after it
+    page-is : setUpOn p kind count body ≡ taken (withPart p kind part count body)
+    unfolding setUpOn
+    page-is =
+        ap (λ (a : Answer SetupPart). onTaken a (λ x. checked (setUpChecks room t x count body) (withPart p kind x count body))) (set-up-part .1)
+        ∙ pass-taken rows (withPart p kind part count body) set-up-passes
 
     pub set-up-answers : (whole bytes : List ℕ) (end : ℕ) → whole ≡ placed (replicate 512 0) 8 body → end ≡ p .filled + 512
         → bytes ≡ placed (p .bytes) (p .filled) (blockOf kind count (t .blocks) (bodyOf whole)) → length bytes ≡ length (p .bytes)
         → Answers p (setUpOn p kind count body) Accepted (pageOf bytes end (draftOf q (p .draft .block)))
-    unfolding setUpOn tally.setUp
+    unfolding tally.setUp
     set-up-answers whole bytes end w e b size =
         let block = blockOf kind count (t .blocks) body in
         let same : bodyOf whole ≡ body = ap bodyOf w ∙ body-in body set-up-long in
@@ -92,7 +124,7 @@ module _ (p : Page) (sound : Sound p) (kind count : ℕ) (body : List ℕ) where
         let blocks : q .blocks ≡ t .blocks + 1 = ap (λ (x : Tally). x .blocks) set-up-is in
         subst (λ (n : ℕ). Answers p (setUpOn p kind count body) Accepted (pageOf bytes n (draftOf q (p .draft .block)))) (sym e)
         (answered p (setUpOn p kind count body) (pageOf bytes (p .filled + 512) (draftOf q (p .draft .block)))
-        (pass-taken rows _ set-up-passes ∙ ap₂ (λ (x : List ℕ) (y : Tally). taken (pageOf x (p .filled + 512) (draftOf y (p .draft .block)))) (sym is) (sym set-up-is))
+        (page-is ∙ ap₂ (λ (x : List ℕ) (y : Tally). taken (pageOf x (p .filled + 512) (draftOf y (p .draft .block)))) (sym is) (sym set-up-is))
         size (block-sound p bytes q (p .draft .block) sound size (c .sound) blocks))
 
 -- ---- posts and ends

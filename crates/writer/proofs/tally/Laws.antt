@@ -12,15 +12,20 @@ use Rattle.amounts.specs.declared.decline.Decline.{Decline}
 use Rattle.layout.proofs.Checked.{AllPass, passed, pass-both, pass-taken}
 use Rattle.layout.proofs.Each.{and-true}
 use Rattle.layout.proofs.verdict.Laws.{accepts, declines}
+use Rattle.layout.specs.Holds.{holdsOf}
 use Rattle.layout.specs.Outline.{mayPost, maySetUp, mayDescribe}
-use Rattle.plant.specs.Setup.{setupChecks}
-use Rattle.plant.specs.Stage.{stageChecks}
 use Rattle.layout.specs.Verdict.{verdictOf}
+use Rattle.layout.specs.declared.holds.Holds.{Holds}
+use Rattle.layout.specs.declared.holds.Holds.the-variants.{SetUp, Posts}
+use Rattle.layout.specs.declared.holds.SetupPart.{SetupPart}
+use Rattle.layout.specs.declared.holds.SetupPart.the-variants.{Materials, Stage}
 use Rattle.layout.specs.declared.outline.Outline.{Outline}
 use Rattle.layout.specs.declared.verdict.Verdict.the-variants.{Accepted, Declined}
 use Rattle.post.specs.Kind.{Row}
 use Rattle.post.specs.Moves.{wellFormed}
-use Rattle.writer.specs.Tally.{freshTally, isFree, kindChecks, setUpChecks, mayBegin, postAnswer, finished, posted, ended, outlineAfter, setUp, setUpOn, postOn, Begun, Sound, Counts}
+use Rattle.writer.specs.Tally.{freshTally, isFree, asPart, partOfKind, partChecks, setUpChecks, mayBegin, postAnswer, finished, posted, ended, outlineAfter}
+use Rattle.writer.specs.Tally.{setUp, partOn, setUpOn, postOn, Begun, Sound, Counts}
+use Rattle.writer.specs.declared.tally.Counted.{Counted}
 use Rattle.writer.specs.declared.tally.Tally.{Tally}
 
 -- blocks of 512 bytes that fit into a buffer
@@ -73,19 +78,42 @@ module _ (room : ℕ) (t : Tally) (s : List ℕ) where
 
 -- ---- what a call answers, as a record
 
-pub refused : (room : ℕ) (t : Tally) (a : Answer Tally) (d : Decline) → Sound room t → a ≡ declined (d .number) → Counts room t a (Declined d) t
-refused room t a d sound e = record { verdict = sym (ap verdictOf e); after = sym (ap (valueOr t) e); sound = sound }
+pub refused : (room : ℕ) (t : Tally) (a : Answer Tally) (d : Decline) (r : Counted) → Sound room t → a ≡ declined (d .number)
+    → r ≡ record { verdict = Declined d; tally = t } → Counts room t a (r .verdict) (r .tally)
+refused room t a d r sound e is =
+    subst (λ (x : Counted). Counts room t a (x .verdict) (x .tally)) (sym is)
+    (record { verdict = sym (ap verdictOf e); after = sym (ap (valueOr t) e); sound = sound })
 
 pub counted : (room : ℕ) (t : Tally) (a : Answer Tally) (q r : Tally) → r ≡ q → Sound room r → a ≡ taken q → Counts room t a Accepted r
 counted room t a q r e sound f = record { verdict = sym (ap verdictOf f); after = e ∙ sym (ap (valueOr t) f); sound = sound }
 
+-- a kind, by what it holds
 module _ (room : ℕ) (t : Tally) (kind count : ℕ) (body : List ℕ) where
-  pub not-taken : (d : Decline) → Declined d ≡ verdictOf (checked (setUpChecks room t kind count body) (tt {0})) → setUpOn room t kind count body ≡ declined (d .number)
-  unfolding setUpOn
-  not-taken d e = declines (tt {0}) (setUp t kind count body) (setUpChecks room t kind count body) d e
+  pub no-part : (n : ℕ) → asPart (holdsOf kind) ≡ declined n → setUpOn room t kind count body ≡ declined n
+  unfolding setUpOn partOfKind
+  no-part n e = rw e
 
-  pub all-passed : Accepted ≡ verdictOf (checked (setUpChecks room t kind count body) (tt {0})) → AllPass (setUpChecks room t kind count body)
-  all-passed e = passed (setUpChecks room t kind count body) (tt {0}) (tt {0}) (accepts (tt {0}) (tt {0}) (setUpChecks room t kind count body) e) .0
+  pub of-part : (part : SetupPart) → holdsOf kind ≡ taken (SetUp part) → setUpOn room t kind count body ≡ partOn room t part count body
+  unfolding setUpOn partOfKind
+  of-part part e = rw e
+
+-- a kind that has a part holds it
+pub has-part : (kind : ℕ) (part : SetupPart) → partOfKind kind ≡ taken part → holdsOf kind ≡ taken (SetUp part)
+unfolding partOfKind
+has-part kind part e = go (holdsOf kind) e
+  where
+    go : (a : Answer Holds) → asPart a ≡ taken part → a ≡ taken (SetUp part)
+    go (taken (SetUp p)) f = cc
+    go (taken Posts) f = let z : _≡_ {A = ℕ} 0 1 = cc in absurd (omega arith)
+    go (declined n) f = let z : _≡_ {A = ℕ} 0 1 = cc in absurd (omega arith)
+
+module _ (room : ℕ) (t : Tally) (part : SetupPart) (count : ℕ) (body : List ℕ) where
+  pub not-taken : (d : Decline) → Declined d ≡ verdictOf (checked (setUpChecks room t part count body) (tt {0})) → partOn room t part count body ≡ declined (d .number)
+  unfolding partOn
+  not-taken d e = declines (tt {0}) (setUp t part count body) (setUpChecks room t part count body) d e
+
+  pub all-passed : Accepted ≡ verdictOf (checked (setUpChecks room t part count body) (tt {0})) → AllPass (setUpChecks room t part count body)
+  all-passed e = passed (setUpChecks room t part count body) (tt {0}) (tt {0}) (accepts (tt {0}) (tt {0}) (setUpChecks room t part count body) e) .0
 
 module _ (room : ℕ) (t : Tally) (s : List ℕ) where
   pub answer-takes : (a : Answer Row) → Accepted ≡ verdictOf a → onTaken a (λ _. taken (posted t)) ≡ taken (posted t)
@@ -146,17 +174,14 @@ not-described o stage e =
     none true = refl
     none false = refl
 
--- 4 and 6 of either kind tell that no post may be taken yet, and the body's length
-pub early : (o : Outline) (kind count : ℕ) (body : List ℕ) → AllPass (kindChecks o kind count body) → (mayPost o ≡ false) × (length body ≡ 500)
-early o kind count body h = go (eqb kind 1) h
-  where
-    go : (t : Bool) → AllPass (cond t (setupChecks o count body) (stageChecks o count body)) → (mayPost o ≡ false) × (length body ≡ 500)
-    go true h = (not-set-up o (h .0), eqb-true (length body) 500 (h .1 .0))
-    go false h = (not-described o count (h .0), eqb-true (length body) 500 (h .1 .0))
+-- 4 and 6 of either part tell that no post may be taken yet, and the body's length
+pub early : (o : Outline) (part : SetupPart) (count : ℕ) (body : List ℕ) → AllPass (partChecks o part count body) → (mayPost o ≡ false) × (length body ≡ 500)
+early o Materials count body h = (not-set-up o (h .0), eqb-true (length body) 500 (h .1 .0))
+early o Stage count body h = (not-described o count (h .0), eqb-true (length body) 500 (h .1 .0))
 
--- a block that is no kind 1 describes the next stage
-pub next-stage : (o : Outline) (kind count : ℕ) (body : List ℕ) → AllPass (kindChecks o kind count body) → (kind ≡ 1 → ⊥) → mayDescribe o count ≡ true
-next-stage o kind count body h n = subst (λ (b : Bool). AllPass (cond b (setupChecks o count body) (stageChecks o count body))) (ne-eqb kind 1 n) h .0
+-- a stage that is taken is the next
+next-stage : (o : Outline) (part : SetupPart) (count : ℕ) (body : List ℕ) → AllPass (partChecks o part count body) → part ≡ Stage → mayDescribe o count ≡ true
+next-stage o part count body h e = subst (λ (p : SetupPart). AllPass (partChecks o p count body)) e h .0
 
 pub stage-is : (o : Outline) (count : ℕ) → mayDescribe o count ≡ true → (o .described < o .stages) × (count ≡ o .described)
 stage-is o count e =
@@ -181,20 +206,20 @@ module _ (room : ℕ) (t : Tally) (sound : Sound room t) where
       go true f = eqb-true (t .waiting) 0 f
       go false f = absurd (true≢false (sym (sound .begun (omega (arith, eqb-false (t .waiting) 0 f)) .in-turn) ∙ e))
 
-  module _ (kind count : ℕ) (body : List ℕ) (pass : AllPass (setUpChecks room t kind count body)) where
-    set-up-parts : AllPass (kindChecks (t .outline) kind count body) × AllPass (check (isFree room t) noRoom ∷ [])
-    set-up-parts = pass-both (kindChecks (t .outline) kind count body) (check (isFree room t) noRoom ∷ []) (pass .1)
+  module _ (part : SetupPart) (count : ℕ) (body : List ℕ) (pass : AllPass (setUpChecks room t part count body)) where
+    set-up-parts : AllPass (partChecks (t .outline) part count body) × AllPass (check (isFree room t) noRoom ∷ [])
+    set-up-parts = pass-both (partChecks (t .outline) part count body) (check (isFree room t) noRoom ∷ []) pass
 
     pub set-up-free : Free room t
     set-up-free = is-free room t (set-up-parts .1 .0)
 
     pub set-up-none-waits : t .waiting ≡ 0
-    set-up-none-waits = none-waits (early (t .outline) kind count body (set-up-parts .0) .0)
+    set-up-none-waits = none-waits (early (t .outline) part count body (set-up-parts .0) .0)
 
-    pub set-up-stage : (kind ≡ 1 → ⊥) → mayDescribe (t .outline) count ≡ true
-    set-up-stage = next-stage (t .outline) kind count body (set-up-parts .0)
+    pub set-up-stage : part ≡ Stage → mayDescribe (t .outline) count ≡ true
+    set-up-stage = next-stage (t .outline) part count body (set-up-parts .0)
 
-    pub set-up-sound : Sound room (setUp t kind count body)
+    pub set-up-sound : Sound room (setUp t part count body)
     unfolding setUp
     set-up-sound =
         let none = set-up-none-waits in
@@ -206,13 +231,13 @@ module _ (room : ℕ) (t : Tally) (sound : Sound room t) where
           begun = λ h. absurd (omega (arith, none, h));
         }
 
-    pub set-up-counts : (o : Outline) → o ≡ outlineAfter (t .outline) kind count body → Counts room t (setUpOn room t kind count body) Accepted
+    pub set-up-counts : (o : Outline) → o ≡ outlineAfter (t .outline) part count body → Counts room t (partOn room t part count body) Accepted
         (record { outline = o; waiting = t .waiting; blocks = t .blocks + 1 })
-    unfolding setUpOn setUp
+    unfolding partOn setUp
     set-up-counts o e =
-        let is : setUpOn room t kind count body ≡ taken (setUp t kind count body) = pass-taken (setUpChecks room t kind count body) (setUp t kind count body) pass in
+        let is : partOn room t part count body ≡ taken (setUp t part count body) = pass-taken (setUpChecks room t part count body) (setUp t part count body) pass in
         let same = ap {B = Tally} (λ (x : Outline). record { outline = x; waiting = t .waiting; blocks = t .blocks + 1 }) e in
-        counted room t (setUpOn room t kind count body) (setUp t kind count body) _ same (subst (Sound room) (sym same) set-up-sound) is
+        counted room t (partOn room t part count body) (setUp t part count body) _ same (subst (Sound room) (sym same) set-up-sound) is
 
   -- ---- posts and ends
 

@@ -1,22 +1,24 @@
-use borrow.Author.Tests.{eq-eqb, ne-eqb}
 use borrow.Author.Needs.{needs}
 use Rattle.book.proofs.block.set_up_by.Statement.{statement}
 use Rattle.book.proofs.block.set_up_by.Tie as tie
 
+enum-told : tie.Need-enum-told
+enum-told c = search needs
+
 set-up-requires : tie.Need-set-up-requires
 set-up-requires c κs = search needs
 
-returns : tie.Need-returns
-returns c = rw (eq-eqb _ 1 (c .before .if1 .taken)) (c .set-up .ensures)
+enum-told-2 : tie.Need-enum-told-2
+enum-told-2 c = search needs
 
 describe-requires : tie.Need-describe-requires
 describe-requires c κs = search needs
 
-returns-2 : tie.Need-returns-2
-returns-2 c = rw (ne-eqb _ 1 (c .before .before .if1 .left), eq-eqb _ 2 (c .before .if2 .taken)) (c .describe .ensures)
+returns : tie.Need-returns
+returns c = rw (c .before .enum-told .given .1) (c .set-up .ensures)
 
-returns-3 : tie.Need-returns-3
-returns-3 c = rw (ne-eqb _ 1 (c .before .if1 .left), ne-eqb _ 2 (c .if2 .left))
+returns-2 : tie.Need-returns-2
+returns-2 c = rw (c .before .enum-told2 .given .1) (c .describe .ensures)
 
 pub set-up-by-spec : {M : Type 1} → statement M
-set-up-by-spec = tie.close (tie.spec set-up-requires returns describe-requires returns-2 returns-3)
+set-up-by-spec = tie.close (tie.spec enum-told set-up-requires enum-told-2 describe-requires returns returns-2)

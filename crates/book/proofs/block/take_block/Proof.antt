@@ -3,44 +3,57 @@ use Prim.Native.Nat.{ℕ, _<_}
 use native.Mathlib.Omega.{arith}
 use denote.Ref.{now}
 use lib.ListN.{getD}
-use Rattle.amounts.specs.Decline.{Answer, taken, checked}
-use Rattle.layout.specs.Frame.{frameChecks}
+use Rattle.amounts.specs.Decline.{Answer, taken}
+use Rattle.layout.specs.Frame.{heldAt}
+use Rattle.layout.specs.Holds.{answer}
+use Rattle.layout.specs.declared.holds.Holds.{Holds}
+use Rattle.layout.specs.declared.holds.Holds.the-variants.{SetUp, Posts}
 use Rattle.plant.specs.declared.setup.Setup.{Setup}
-use Rattle.layout.proofs.frame.Laws.{Framed, framed, number-small}
+use Rattle.layout.proofs.frame.Laws.{Framed, held-framed, number-small}
 use Rattle.book.specs.Answer.{outcome}
 use Rattle.book.specs.Block.{onSetup, blockOn}
 use Rattle.book.specs.Site.{Sound}
 use Rattle.book.specs.declared.answer.Answered.{Answered}
-use Rattle.book.proofs.answer.Laws.{table-declined, table-accepted, sound-after}
-use Rattle.book.proofs.block.Laws.{not-framed, is-framed, as-posts, by-setup, block-sound}
+use Rattle.book.proofs.answer.Laws.{sound-after}
+use Rattle.book.proofs.block.Laws.{not-framed, is-framed, block-sound}
 use borrow.Author.Needs.{needs}
 use Rattle.book.proofs.block.take_block.Statement.{statement}
 use Rattle.book.proofs.block.take_block.Tie as tie
 
-abbrev start : tie.After-enum-told → tie.Start
-start c = c .before .before .before .before
-
-bytes-small : (c : tie.After-check-frame) → (i : ℕ) → getD (now (c .before .before .args .s)) i 0 < 256
+bytes-small : (c : tie.After-read-frame) → (i : ℕ) → getD (now (c .before .before .args .s)) i 0 < 256
 bytes-small c i = c .before .shared-slice-known .given i .fits
 
--- the frame passes
-passes : (c : tie.After-enum-told) → let a = start c .args in Framed (a .b .blocks) (now (a .s)) × (checked (frameChecks (a .b .blocks) (now (a .s))) (now (a .s)) ≡ taken (now (a .s)))
-passes c =
-    let a = start c .args in
-    let s = now (a .s) in
-    let e = table-accepted (frameChecks (a .b .blocks) s) _ s (c .before .before .check-frame .ensures) (c .enum-told .given .1) in
-    (framed (a .b .blocks) s s s e .0, e)
-
 -- the book that is answered is sound
-sound-by : (c : tie.After-check-frame) {r : Answered} → let a = c .before .before .args in r ≡ outcome (a .b) (blockOn (a .b) (now (a .s))) → Sound (r .book)
+sound-by : (c : tie.After-read-frame) {r : Answered} → let a = c .before .before .args in r ≡ outcome (a .b) (blockOn (a .b) (now (a .s))) → Sound (r .book)
 sound-by c {r} e =
     let s = c .before .before in
     let b = s .args .b in
     let bytes = now (s .args .s) in
     sound-after b (blockOn b bytes) r (s .pre) (λ d. block-sound b d bytes (bytes-small c) (s .pre)) e
 
-check-frame-requires : tie.Need-check-frame-requires
-check-frame-requires c κs = search needs
+-- ---- what the frame tells
+
+abbrev frame : tie.After-known-told2 → tie.After-read-frame
+frame c = c .before .before .before
+
+abbrev start : tie.After-known-told2 → tie.Start
+start c = frame c .before .before
+
+abbrev held : tie.After-known-told2 → Holds
+held c = c .before .h .given .0 .0
+
+is-held : (c : tie.After-known-told2) → let a = start c .args in heldAt (a .b .blocks) (now (a .s)) ≡ taken (held c)
+is-held c = sym (frame c .read-frame .ensures) ∙ ap answer (c .before .h .given .1)
+
+passes : (c : tie.After-known-told2) → let a = start c .args in Framed (a .b .blocks) (now (a .s))
+passes c = let a = start c .args in held-framed (a .b .blocks) (now (a .s)) (held c) (is-held c) .0
+
+-- a number of 16 bits
+few : (c : tie.After-known-told2) → start c .args .b .blocks < 65536
+few c = number-small _ _ (bytes-small (frame c)) (passes c)
+
+read-frame-requires : tie.Need-read-frame-requires
+read-frame-requires c κs = search needs
 
 enum-known-d : tie.Need-enum-known-d
 enum-known-d c = search needs
@@ -54,19 +67,15 @@ returns c =
     let s = k .before .before in
     let b = s .args .b in
     let bytes = now (s .args .s) in
-    let d = c .before .before .d .given .0 .0 in
-    let e = c .declined .ensures
-    ∙ ap (outcome b) (sym (not-framed b bytes (d .number) (table-declined (frameChecks (b .blocks) bytes) _ bytes (k .check-frame .ensures) d (c .before .before .d .given .1)))) in
+    let d = c .before .before .d .given in
+    let e = c .declined .ensures ∙ ap (outcome b) (sym (not-framed b bytes (d .0 .0 .number) (sym (k .read-frame .ensures) ∙ ap answer (d .1)))) in
     (e, sound-by k e)
 
-enum-told : tie.Need-enum-told
-enum-told c = search needs
-
-shared-slice-read-kind : tie.Need-shared-slice-read-kind
-shared-slice-read-kind c = omega (arith, passes (c .before) .0 .long)
+enum-known-h : tie.Need-enum-known-h
+enum-known-h c = search needs
 
 shared-slice-read-count : tie.Need-shared-slice-read-count
-shared-slice-read-count c = omega (arith, passes (c .before .before) .0 .long)
+shared-slice-read-count c = omega (arith, passes (c .before) .long)
 
 sub-body : tie.Need-sub-body
 sub-body c = search needs
@@ -75,53 +84,59 @@ part-body-start : tie.Need-part-body-start
 part-body-start c = search needs
 
 part-body-end : tie.Need-part-body-end
-part-body-end c = omega (arith, passes (c .before .before) .0 .long)
+part-body-end c = omega (arith, passes (c .before) .long)
+
+enum-told : tie.Need-enum-told
+enum-told c = search needs
 
 take-posts-requires : tie.Need-take-posts-requires
-take-posts-requires c κs = let k = c .before .before .before .before in (start k .pre, number-small _ _ (bytes-small (k .before .before)) (passes k .0))
+take-posts-requires c κs = let k = c .before .before .before .before in (start k .pre, few k)
 
-returns-2 : tie.Need-returns-2
-returns-2 c =
-    let k = c .before .before .before .before .before in
-    let s = start k in
-    let b = s .args .b in
-    let bytes = now (s .args .s) in
-    let e = as-posts b bytes (passes k .1) (c .before .if1 .taken) (c .take-posts .ensures) in
-    (e, sound-by (k .before .before) e)
+enum-known-held : tie.Need-enum-known-held
+enum-known-held c = search needs
 
 set-up-by-requires : tie.Need-set-up-by-requires
 set-up-by-requires c κs = search needs
 
 with-setup-requires : tie.Need-with-setup-requires
-with-setup-requires c κs = let k = c .before .before .before .before .before .before in number-small _ _ (bytes-small (k .before .before)) (passes k .0)
+with-setup-requires c κs = few (c .before .before .before .before .before .before .before)
+
+returns-2 : tie.Need-returns-2
+returns-2 c =
+    let k = c .before .before .before .before .before in
+    let b = start k .args .b in
+    let bytes = now (start k .args .s) in
+    let e = c .take-posts .ensures ∙ ap (outcome b) (sym (is-framed b bytes Posts (is-held k ∙ ap taken (c .before .enum-told .given .1)))) in
+    (e, sound-by (frame k) e)
 
 returns-3 : tie.Need-returns-3
 returns-3 c =
-    let k = c .before .before .before .before .before .before .before in
-    let s = start k in
-    let b = s .args .b in
-    let bytes = now (s .args .s) in
+    let m = c .before .before .before .before in
+    let k = m .before .before .before .before in
+    let b = start k .args .b in
+    let bytes = now (start k .args .s) in
     let e = c .with-setup .ensures
     ∙ ap (λ (x : Answer Setup). outcome b (onSetup b x)) (c .before .set-up-by .ensures)
-    ∙ ap (outcome b) (sym (is-framed b bytes (passes k .1) ∙ by-setup b bytes (c .before .before .before .if1 .left))) in
-    (e, sound-by (k .before .before) e)
+    ∙ ap (outcome b) (sym (is-framed b bytes (SetUp (m .held .given .0 .0)) (is-held k ∙ ap taken (m .held .given .1)))) in
+    (e, sound-by (frame k) e)
 
 pub take-block-spec : {M : Type 1} → statement M
 take-block-spec =
     tie.close
     (tie.spec
-    check-frame-requires
+    read-frame-requires
     enum-known-d
     declined-requires
     returns
-    enum-told
-    shared-slice-read-kind
+    enum-known-h
     shared-slice-read-count
     sub-body
     part-body-start
     part-body-end
+    enum-told
     take-posts-requires
-    returns-2
+    enum-known-held
     set-up-by-requires
     with-setup-requires
+    returns-2
     returns-3)

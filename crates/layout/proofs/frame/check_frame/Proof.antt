@@ -28,11 +28,11 @@ cast-own c = search needs
 row-requires : tie.Need-row-requires
 row-requires c κs = search needs
 
-shared-slice-read-is-within : tie.Need-shared-slice-read-is-within
-shared-slice-read-is-within c = search needs
+shared-slice-read-is-kind : tie.Need-shared-slice-read-is-kind
+shared-slice-read-is-kind c = search needs
 
-is-within-requires : tie.Need-is-within-requires
-is-within-requires c κs = search needs
+is-kind-requires : tie.Need-is-kind-requires
+is-kind-requires c κs = search needs
 
 row-requires-2 : tie.Need-row-requires-2
 row-requires-2 c κs = search needs
@@ -61,7 +61,7 @@ returns-3 c =
     (past _ _ _ _ (holds (tagged .before .has-tag .ensures) (tagged .if2 .left))
     (row-is _ _ _ _ (c .row4 .ensures) (ap₂ eqb (c .before .before .le163 .ensures) (ap (λ (x : CheckSums). x .plain) sums))
     (row-is _ _ _ _ (weighted .row3 .ensures) (ap₂ eqb (weighted .before .before .le162 .ensures) (ap (λ (x : CheckSums). x .weighted) sums))
-    (row-is _ _ _ _ (kind .row2 .ensures) (kind .before .is-within .ensures)
+    (row-is _ _ _ _ (kind .row2 .ensures) (kind .before .is-kind .ensures)
     (row-is _ _ _ _ (next .row .ensures) (ap (λ n. eqb n number) (next .before .le16 .ensures)) (through (tt {0})))))))
 
 pub check-frame-spec : {M : Type 1} → statement M
@@ -75,8 +75,8 @@ check-frame-spec =
     le16-requires
     cast-own
     row-requires
-    shared-slice-read-is-within
-    is-within-requires
+    shared-slice-read-is-kind
+    is-kind-requires
     row-requires-2
     le16-requires-2
     row-requires-3

@@ -1,27 +1,20 @@
 use mathlib.Core.Path.{sym, _∙_}
-use Rattle.layout.proofs.verdict.Laws.{holds, misses, past, stop, row-is, through}
+use Rattle.layout.proofs.verdict.Laws.{row-is, through}
 use Rattle.writer.proofs.tally.Laws.{behind-declined, behind-passed}
 use borrow.Author.Needs.{needs}
 use Rattle.writer.proofs.tally.check_set_up.Statement.{statement}
 use Rattle.writer.proofs.tally.check_set_up.Tie as tie
 
-is-within-requires : tie.Need-is-within-requires
-is-within-requires c κs = search needs
-
-returns : tie.Need-returns
-returns c = stop _ _ _ _ (misses (c .before .is-within .ensures) (c .if1 .taken))
-
-check-kind-requires : tie.Need-check-kind-requires
-check-kind-requires c κs = search needs
+check-part-requires : tie.Need-check-part-requires
+check-part-requires c κs = search needs
 
 enum-known-d : tie.Need-enum-known-d
 enum-known-d c = search needs
 
-returns-2 : tie.Need-returns-2
-returns-2 c =
+returns : tie.Need-returns
+returns c =
     let k = c .before .before .before in
-    past _ _ _ _ (holds (k .before .before .before .is-within .ensures) (k .before .before .if1 .left))
-    (behind-declined _ (tt {0}) _ (c .before .d .given .0 .0) (sym (c .before .d .given .1) ∙ k .check-kind .ensures))
+    behind-declined _ (tt {0}) _ (c .before .d .given .0 .0) (sym (c .before .d .given .1) ∙ k .check-part .ensures)
 
 enum-told : tie.Need-enum-told
 enum-told c = search needs
@@ -32,23 +25,20 @@ is-free-requires c κs = search needs
 row-requires : tie.Need-row-requires
 row-requires c κs = search needs
 
-returns-3 : tie.Need-returns-3
-returns-3 c =
+returns-2 : tie.Need-returns-2
+returns-2 c =
     let k = c .before .before .before .before in
-    past _ _ _ _ (holds (k .before .before .before .is-within .ensures) (k .before .before .if1 .left))
-    (row-is _ _ _ _ (c .row .ensures) (c .before .is-free .ensures) (through (tt {0}))
-    ∙ behind-passed _ (tt {0}) _ (sym (c .before .before .enum-told .given .1) ∙ k .check-kind .ensures))
+    row-is _ _ _ _ (c .row .ensures) (c .before .is-free .ensures) (through (tt {0}))
+    ∙ behind-passed _ (tt {0}) _ (sym (c .before .before .enum-told .given .1) ∙ k .check-part .ensures)
 
 pub check-set-up-spec : {M : Type 1} → statement M
 check-set-up-spec =
     tie.close
     (tie.spec
-    is-within-requires
-    returns
-    check-kind-requires
+    check-part-requires
     enum-known-d
-    returns-2
+    returns
     enum-told
     is-free-requires
     row-requires
-    returns-3)
+    returns-2)

@@ -22,14 +22,17 @@ check-post-requires c κs = search needs
 enum-known-d : tie.Need-enum-known-d
 enum-known-d c = search needs
 
+refused-requires : tie.Need-refused-requires
+refused-requires c κs = search needs
+
 returns : tie.Need-returns
 returns c =
-    let k = c .before .before .before in
+    let e = c .before .before .d .given in
+    let k = c .before .before .before .before in
     let s = k .before .before in
     let a = s .args in
-    let d = c .before .d .given .0 .0 in
-    refused (a .room) (a .t) (postOn (a .room) (a .t) (now (a .s))) d (s .pre)
-    (post-declines (a .room) (a .t) (now (a .s)) d (sym (c .before .d .given .1) ∙ k .check-post .ensures))
+    refused (a .room) (a .t) (postOn (a .room) (a .t) (now (a .s))) (e .0 .0) (c .refused .result) (s .pre)
+    (post-declines (a .room) (a .t) (now (a .s)) (e .0 .0) (sym (e .1) ∙ k .check-post .ensures)) (c .refused .ensures)
 
 enum-told : tie.Need-enum-told
 enum-told c = search needs
@@ -44,8 +47,8 @@ returns-2 c =
     subst (λ (x : Counted). Counts (a .room) (a .t) (postOn (a .room) (a .t) (now (a .s))) (x .verdict) (x .tally)) (sym (c .finish .ensures))
     (post-finishes (a .room) (a .t) (start k .pre) (now (a .s)) (was-accepted k) (c .before .if1 .taken))
 
-add-t10 : tie.Need-add-t10
-add-t10 c = omega (arith, start (c .before .before .before .before) .pre .few)
+add-t9 : tie.Need-add-t9
+add-t9 c = omega (arith, start (c .before .before .before .before) .pre .few)
 
 returns-3 : tie.Need-returns-3
 returns-3 c =
@@ -59,9 +62,10 @@ post-spec =
     (tie.spec
     check-post-requires
     enum-known-d
+    refused-requires
     returns
     enum-told
     finish-requires
     returns-2
-    add-t10
+    add-t9
     returns-3)
