@@ -5,11 +5,11 @@ use mathlib.Core.List.{List}
 use lib.Dec.{eqb}
 use Rattle.amounts.specs.Decline.{Answer, taken, declined, checked, onTaken, notNext}
 use Rattle.layout.specs.Frame.{blockKind, countOf, bodyOf, frameChecks}
+use Rattle.plant.specs.Setup.{setUpOn}
+use Rattle.plant.specs.Stage.{describedOn}
 use Rattle.plant.specs.declared.setup.Setup.{Setup}
 use Rattle.book.specs.Posts.{postsOn}
-use Rattle.book.specs.Setup.{setUpOn}
 use Rattle.book.specs.Site.{bookWith}
-use Rattle.book.specs.Stage.{describedOn}
 use Rattle.book.specs.declared.site.Book.{Book}
 use Rattle.book.specs.declared.site.Year.{Year}
 

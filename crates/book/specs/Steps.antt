@@ -5,11 +5,10 @@ use mathlib.Core.Bool.{Bool, true, not}
 use mathlib.Core.List.{List, [], _∷_}
 use lib.ListN.{length, getD}
 use Rattle.amounts.specs.Decline as number
-use Rattle.amounts.specs.Decline.{Answer, taken, declined, check, checked, onTaken, outOfTurn, full}
+use Rattle.amounts.specs.Decline.{Answer, taken, check, checked, onTaken, outOfTurn, full}
 use Rattle.layout.specs.Outline.{mayPost}
 use Rattle.layout.specs.Verdict.{verdictOf}
 use Rattle.layout.specs.declared.verdict.Verdict.{Verdict}
-use Rattle.layout.specs.declared.verdict.Verdict.the-variants.{Accepted, Declined}
 use Rattle.layout.specs.declared.outline.Outline.{Outline}
 use Rattle.post.specs.Moves.{moveAt, Fits}
 use Rattle.post.specs.declared.moves.Move.{Move}
@@ -17,11 +16,6 @@ use Rattle.book.specs.Entry.{isThere, storeAfter, sumsAfter, handledAfte
 use Rattle.book.specs.Ledger.{total}
 use Rattle.book.specs.Posts.{hasRoom}
 use Rattle.book.specs.declared.site.Year.{Year}
-
--- a value by a verdict of it
-abbrev pub guarded : {A : Type 0} → Verdict → A → Answer A
-guarded Accepted a = taken a
-guarded (Declined d) a = declined (d .number)
 
 -- ---- a move entered in the lists of a year
 
@@ -39,10 +33,10 @@ pub record Room (counted store sums handled : List ℕ) (m : Move) : Type 0 wher
   pub handled-few : (s : ℕ) → s < 8 → getD handled s 0 ≤ 2 * 10 ^ 15 * 4000
 
 -- whether what leaves was there, and the lists where it was
-pub record Entered (counted sides store sums handled : List ℕ) (m : Move) (store' sums' handled' : List ℕ) (r : Bool) : Type 0 where
+pub record Entered (counted : List ℕ) (toWater : List Bool) (store sums handled : List ℕ) (m : Move) (store' sums' handled' : List ℕ) (r : Bool) : Type 0 where
   pub there : r ≡ isThere store sums m
   pub store-is : r ≡ true → store' ≡ storeAfter store m
-  pub sums-is : r ≡ true → sums' ≡ sumsAfter counted sides sums m
+  pub sums-is : r ≡ true → sums' ≡ sumsAfter counted toWater sums m
   pub handled-is : r ≡ true → handled' ≡ handledAfter counted handled m
 
 -- ---- a run of posts

@@ -3,18 +3,19 @@ ghost use mathlib.Core.Path.{_≡_};
 ghost use Prim.Native.Nat.{_<_};
 ghost use Rattle.book.specs.Answer.{outcome};
 ghost use Rattle.book.specs.Block.{setupBy, onSetup, blockOn};
-ghost use Rattle.book.specs.Site.{Sound, SoundSetup};
-ghost use Rattle.book.specs.Steps.{guarded};
+ghost use Rattle.book.specs.Site.{Sound};
+ghost use Rattle.plant.specs.Setup.{SoundSetup};
+ghost use Rattle.plant.specs.Steps.{guarded};
 use crate::answer;
 use crate::answer::Answered;
 use crate::posts;
-use crate::setup;
-use crate::setup::SetupEnd;
 use crate::site::Book;
-use crate::stage;
 use amounts::decline;
 use layout::frame;
+use plant::setup;
 use plant::setup::Setup;
+use plant::setup::SetupEnd;
+use plant::stage;
 use layout::verdict::Verdict;
 
 // A set-up block, by its kind.

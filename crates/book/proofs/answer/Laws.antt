@@ -15,18 +15,6 @@ use Rattle.book.specs.Steps.{guarded}
 use Rattle.book.specs.declared.answer.Answered.{Answered}
 use Rattle.book.specs.declared.site.Book.{Book}
 
--- ---- a value by its verdict
-
-module _ {A : Type 0} (rows : List Check) (v : Verdict) (a : A) (told : v ≡ verdictOf (checked rows (tt {0}))) where
-  pub guard-declined : (d : Decline) (b : A) → v ≡ Declined d → guarded v b ≡ checked rows a
-  guard-declined d b e = ap (λ (x : Verdict). guarded x b) e ∙ sym (declines (tt {0}) a rows d (sym e ∙ told))
-
-  pub table-declined : (d : Decline) → v ≡ Declined d → checked rows a ≡ declined (d .number)
-  table-declined d e = declines (tt {0}) a rows d (sym e ∙ told)
-
-  pub table-accepted : v ≡ Accepted → checked rows a ≡ taken a
-  table-accepted e = accepts (tt {0}) a rows (sym e ∙ told)
-
 -- ---- a call
 
 -- a call that keeps the book sound where it is taken keeps it sound

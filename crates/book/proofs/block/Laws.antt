@@ -11,23 +11,22 @@ use Rattle.amounts.specs.Decline.{taken, declined, checked}
 use Rattle.amounts.proofs.decline.Laws.{was-taken}
 use Rattle.layout.specs.Frame.{blockKind, countOf, bodyOf, frameChecks}
 use Rattle.layout.specs.Posts.{postIn}
-use Rattle.plant.specs.Setup.{setupOf}
+use Rattle.plant.specs.Setup.{setupOf, setUpOn, SoundSetup}
+use Rattle.plant.specs.Stage.{withStage, describedOn}
 use Rattle.plant.specs.declared.setup.Setup.{Setup}
 use Rattle.layout.proofs.frame.Laws.{Framed, framed, number-small}
 use Rattle.layout.proofs.posts.Laws.{Owned}
 use Rattle.book.specs.Answer.{outcome}
 use Rattle.book.specs.Block.{setupBy, onSetup, onYear, byKind, blockOn}
 use Rattle.book.specs.Posts.{takenTo, postsOn}
-use Rattle.book.specs.Setup.{setUpOn}
-use Rattle.book.specs.Site.{Sound, SoundSetup, SoundYear, bookWith}
-use Rattle.book.specs.Stage.{withStage, describedOn}
+use Rattle.book.specs.Site.{Sound, SoundYear, bookWith}
 use Rattle.book.specs.declared.answer.Answered.{Answered}
 use Rattle.book.specs.declared.site.Book.{Book}
 use Rattle.book.specs.declared.site.Year.{Year}
 use Rattle.book.proofs.posts.Laws.{many-sound, posts-taken}
-use Rattle.book.proofs.setup.Laws as first
+use Rattle.plant.proofs.setup.Taken as first
 use Rattle.book.proofs.site.Laws.{sound-before}
-use Rattle.book.proofs.stage.Laws as stage
+use Rattle.plant.proofs.stage.Taken as stage
 
 -- ---- through the frame
 

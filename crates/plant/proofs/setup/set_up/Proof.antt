@@ -1,12 +1,11 @@
 use mathlib.Core.Path.{sym, ap, _∙_}
 use denote.Ref.{now}
 use Rattle.amounts.specs.Decline.{taken}
-use Rattle.plant.specs.Setup.{setupChecks, setupOf}
-use Rattle.book.specs.Setup.{setUpOn}
-use Rattle.book.proofs.answer.Laws.{guard-declined, table-accepted}
+use Rattle.plant.specs.Setup.{setupChecks, setupOf, setUpOn}
+use Rattle.plant.proofs.Guarded.{guard-declined, table-accepted}
 use borrow.Author.Needs.{needs}
-use Rattle.book.proofs.setup.set_up.Statement.{statement}
-use Rattle.book.proofs.setup.set_up.Tie as tie
+use Rattle.plant.proofs.setup.set_up.Statement.{statement}
+use Rattle.plant.proofs.setup.set_up.Tie as tie
 
 check-setup-requires : tie.Need-check-setup-requires
 check-setup-requires c κs = search needs
