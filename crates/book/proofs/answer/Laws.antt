@@ -1,17 +1,12 @@
 -- What a call on a book returns, and what its verdict tells of its answer. Assumes nothing.
 use mathlib.Core.Path.{_≡_, refl, sym, ap, _∙_}
-use mathlib.Core.List.{List}
 use Prim.Native.Nat.{ℕ}
 use native.Mathlib.Omega.{arith}
-use Rattle.amounts.specs.Decline.{Answer, Check, taken, declined, checked}
+use Rattle.amounts.specs.Decline.{Answer, taken, declined}
 use Rattle.amounts.specs.declared.decline.Decline.{Decline}
-use Rattle.layout.specs.Verdict.{verdictOf}
-use Rattle.layout.specs.declared.verdict.Verdict.{Verdict}
 use Rattle.layout.specs.declared.verdict.Verdict.the-variants.{Accepted, Declined}
-use Rattle.layout.proofs.verdict.Laws.{accepts, declines}
 use Rattle.book.specs.Answer.{outcome}
 use Rattle.book.specs.Site.{Sound}
-use Rattle.book.specs.Steps.{guarded}
 use Rattle.book.specs.declared.answer.Answered.{Answered}
 use Rattle.book.specs.declared.site.Book.{Book}
 

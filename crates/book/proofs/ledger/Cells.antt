@@ -138,7 +138,7 @@ module _ (l : List ℕ) (sides : List Bool) (long : length l ≡ 576) where
   settled-held zero j hi h = absurd (omega arith)
   settled-held (suc k) j hi h = go (ℕ-discrete j k) (settled-held k j)
     where
-      side : ℕ
+      side : Bool
       side = getD sides k false
 
       go : Dec (j ≡ k) → (k ≤ 64 → j < k → getD (settled l sides k) (at held j) 0 ≡ 0)
@@ -158,7 +158,7 @@ module _ (l : List ℕ) (sides : List Bool) (long : length l ≡ 576) where
       m : List ℕ
       m = settled l sides k
 
-      side : ℕ
+      side : Bool
       side = getD sides k false
 
       go : Dec (j ≡ k)
