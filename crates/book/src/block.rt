@@ -12,11 +12,11 @@ use crate::posts;
 use crate::site::Book;
 use amounts::decline;
 use layout::frame;
+use layout::verdict::Verdict;
 use plant::setup;
 use plant::setup::Setup;
 use plant::setup::SetupEnd;
 use plant::stage;
-use layout::verdict::Verdict;
 
 // A set-up block, by its kind.
 pub(crate) fn set_up_by(u: Setup, kind: u8, count: u8, body: &[u8]) -> SetupEnd

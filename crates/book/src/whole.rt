@@ -11,8 +11,8 @@ use crate::site::Book;
 use crate::site::Year;
 use amounts::decline::Decline;
 use layout::frame;
-use plant::setup::Setup;
 use layout::verdict::Verdict;
+use plant::setup::Setup;
 
 // Accepted, with as many blocks as the journal has and the book after the last; or why a block was declined, with its place from 0 and a
 // fresh book.

@@ -52,7 +52,8 @@ pub data State (counted : List ℕ) (sides : List Bool) (ms : List Move) (sums :
 
 -- ---- no move yet
 
-pub state-none : (counted : List ℕ) (sides : List Bool) (sums : List ℕ) (closed : Bool) → closed ≡ false → ((a k s : ℕ) → a < 9 → k < 8 → s < 8 → cell sums a k s ≡ 0) → State counted sides [] sums closed
+pub state-none : (counted : List ℕ) (sides : List Bool) (sums : List ℕ) (closed : Bool) → closed ≡ false
+    → ((a k s : ℕ) → a < 9 → k < 8 → s < 8 → cell sums a k s ≡ 0) → State counted sides [] sums closed
 unfolding anyCloses
 state-none counted sides sums closed o none =
     still-open o refl
@@ -106,7 +107,8 @@ open-next counted sums next ms m o f =
     }
 
 -- the close brings and takes nothing under a name
-shut-next : (counted : List ℕ) (sides : List Bool) (sums : List ℕ) (ms : List Move) → length sums ≡ 576 → Open counted ms sums → Shut counted sides (ms ++ (Close ∷ [])) (sumsAfter counted sides sums Close)
+shut-next : (counted : List ℕ) (sides : List Bool) (sums : List ℕ) (ms : List Move) → length sums ≡ 576 → Open counted ms sums
+    → Shut counted sides (ms ++ (Close ∷ [])) (sumsAfter counted sides sums Close)
 shut-next counted sides sums ms long o =
     record {
       enough = λ k s hk hs. omega (arith, came-same k s, left-same k s, o .kept k s hk hs);

@@ -29,7 +29,7 @@ residueIn body = secondOf (getD body 1 0)
 abbrev pub sideRow : List ℕ → ℕ → Answer Bool
 sideRow s i = secondOf (getD s (i * 17) 0)
 
--- the second case of each is named; a stage that is not described has the first
+-- whether it is the second of each: sewer, landfill, water; a stage that is not described has the first
 abbrev pub sewered : List ℕ → Bool
 sewered body = valueOr false (waterIn body)
 
@@ -82,23 +82,9 @@ stageChecks o stage body =
 
 -- ---- kind 2 on a set-up: its next stage described
 
--- "17 bytes per substance": the sides and rates of n substances in the pairs from base on
-abbrev pub withPairs : Setup → ℕ → List ℕ → ℕ → Setup
-withPairs u base s n =
-    record {
-      outline = u .outline;
-      numbers = u .numbers;
-      classes = u .classes;
-      counted = u .counted;
-      «to_sewer» = u .«to_sewer»;
-      «to_landfill» = u .«to_landfill»;
-      «to_water» = putTo (λ i. base + i) (waterRow s) (u .«to_water») n;
-      rates = putTo (λ i. base + i) (rateRow s) (u .rates) n;
-    }
-
--- "8: 1 public water, 2 sewer. 9: residues 1 off site, 2 landfill": one stage more is described
-abbrev pub staged : Setup → ℕ → List ℕ → Setup
-staged u stage body =
+-- "8: 1 public water, 2 sewer. 9: residues 1 off site, 2 landfill. From 10, 17 bytes per substance": where a stage's water and residues go, and its pairs
+abbrev pub withStage : Setup → ℕ → List ℕ → Setup
+withStage u stage body =
     record {
       outline = withDescribed (u .outline) stage;
       numbers = u .numbers;
@@ -106,13 +92,9 @@ staged u stage body =
       counted = u .counted;
       «to_sewer» = set (u .«to_sewer») stage (sewered body);
       «to_landfill» = set (u .«to_landfill») stage (landfilled body);
-      «to_water» = u .«to_water»;
-      rates = u .rates;
+      «to_water» = putTo (λ i. stage * 8 + i) (waterRow (drop 2 body)) (u .«to_water») (u .outline .substances);
+      rates = putTo (λ i. stage * 8 + i) (rateRow (drop 2 body)) (u .rates) (u .outline .substances);
     }
-
--- the set-up with its next stage described
-abbrev pub withStage : Setup → ℕ → List ℕ → Setup
-withStage u stage body = staged (withPairs u (stage * 8) (drop 2 body) (u .outline .substances)) stage body
 
 unfoldable pub describedOn : Setup → ℕ → List ℕ → Answer Setup
 unfolding checked

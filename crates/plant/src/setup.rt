@@ -6,15 +6,15 @@ ghost use Rattle.layout.specs.Verdict.{verdictOf};
 ghost use Rattle.plant.specs.Setup.{numbersIn, classesIn, contentsIn, countedAll, outlineOf, freshSetup, setupOf, setUpOn};
 ghost use Rattle.plant.specs.Setup.{rising, allClasses, rowSum, rowFits, rowsFit, materialChecks, substanceChecks, bodyChecks, setupChecks};
 ghost use Rattle.plant.specs.Steps.{guarded};
+use amounts::class;
+use amounts::content;
+use amounts::content::Counted;
+use amounts::decline;
 use layout::bytes;
 use layout::outline;
 use layout::outline::Outline;
 use layout::verdict::Verdict;
 use layout::verdict::row;
-use amounts::class;
-use amounts::content;
-use amounts::content::Counted;
-use amounts::decline;
 
 // A pair's rates in ppm, of a stage and a substance.
 pub struct Rates {

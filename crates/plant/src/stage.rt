@@ -9,16 +9,16 @@ ghost use Rattle.layout.specs.Verdict.{verdictOf};
 ghost use Rattle.plant.specs.Stage.{secondOf, waterRow, rateRow, withStage, describedOn};
 ghost use Rattle.plant.specs.Stage.{ratesAt, ratesFit, allRatesFit, stageBodyChecks, stageChecks};
 ghost use Rattle.plant.specs.Steps.{guarded};
-use layout::bytes;
-use layout::outline;
-use layout::outline::Outline;
 use crate::setup::NO_RATES;
 use crate::setup::Rates;
 use crate::setup::Setup;
 use crate::setup::SetupEnd;
+use amounts::decline;
+use layout::bytes;
+use layout::outline;
+use layout::outline::Outline;
 use layout::verdict::Verdict;
 use layout::verdict::row;
-use amounts::decline;
 
 // Whether a byte names the second of two cases.
 pub fn is_second(byte: u8) -> bool

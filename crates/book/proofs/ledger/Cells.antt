@@ -162,7 +162,8 @@ module _ (l : List ℕ) (sides : List Bool) (long : length l ≡ 576) where
       side = getD sides k false
 
       go : Dec (j ≡ k)
-          → (k ≤ 64 → j < k → 1 ≤ account → account < 9 → getD m (at account j) 0 ≡ getD l (at account j) 0 + cond (eqb account (closesTo (getD sides j false))) (getD l (at held j) 0) 0)
+          → (k ≤ 64 → j < k → 1 ≤ account → account < 9
+          → getD m (at account j) 0 ≡ getD l (at account j) 0 + cond (eqb account (closesTo (getD sides j false))) (getD l (at held j) 0) 0)
           → getD (moved m (at held k) (at (closesTo side) k) (getD m (at held k) 0)) (at account j) 0
           ≡ getD l (at account j) 0 + cond (eqb account (closesTo (getD sides j false))) (getD l (at held j) 0) 0
       go (yes e) before =

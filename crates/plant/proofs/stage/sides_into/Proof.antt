@@ -50,7 +50,8 @@ loop-again : tie.Need-loop-again Inv-loop μ-loop
 loop-again c =
     let l = c .before .before .before in
     let a = l .before .before .args in
-    (search needs, put-again (λ k. a .base + k) (waterRow (now (a .s))) (a .to-water) (l .loop .i) (l .loop .out) _ (l .loop .inv .1) (c .is-second .ensures ∙ ap cased (c .before .byte-at .ensures)))
+    let read = c .is-second .ensures ∙ ap cased (c .before .byte-at .ensures) in
+    (search needs, put-again (λ k. a .base + k) (waterRow (now (a .s))) (a .to-water) (l .loop .i) (l .loop .out) _ (l .loop .inv .1) read)
 
 returns : tie.Need-returns Inv-loop μ-loop
 returns c =
