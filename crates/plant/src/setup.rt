@@ -26,7 +26,7 @@ pub struct Rates {
 
 // What the set-up blocks say. Contents are kept as counted: for the material m and the substance s at m * 8 + s. A pair's side, water
 // or gas, and its rates stand at stage * 8 + substance. A stage's treated water goes to the sewer or to public water, its residues to
-// landfill or off site. Where the stage isn't described yet, no case is the one named and the rates are 0.
+// landfill or off site. Of a stage that isn't described yet the flags are false and the rates 0.
 pub struct Setup {
     pub outline: Outline,
     pub numbers: [u16; 8],
