@@ -5,10 +5,11 @@ use mathlib.Core.Bool.{Bool, true, not}
 use mathlib.Core.List.{List, [], _∷_}
 use lib.ListN.{length, getD}
 use Rattle.amounts.specs.Decline as number
-use Rattle.amounts.specs.Decline.{Answer, taken, check, checked, onTaken, outOfTurn, full}
+use Rattle.amounts.specs.Decline.{Answer, taken, declined, check, checked, onTaken, outOfTurn, full}
 use Rattle.layout.specs.Outline.{mayPost}
 use Rattle.layout.specs.Verdict.{verdictOf}
 use Rattle.layout.specs.declared.verdict.Verdict.{Verdict}
+use Rattle.layout.specs.declared.verdict.Verdict.the-variants.{Accepted, Declined}
 use Rattle.layout.specs.declared.outline.Outline.{Outline}
 use Rattle.post.specs.Moves.{moveAt, Fits}
 use Rattle.post.specs.declared.moves.Move.{Move}
@@ -16,6 +17,11 @@ use Rattle.book.specs.Entry.{isThere, storeAfter, sumsAfter, handledAfte
 use Rattle.book.specs.Ledger.{total}
 use Rattle.book.specs.Posts.{hasRoom}
 use Rattle.book.specs.declared.site.Year.{Year}
+
+-- a value by a verdict of it
+abbrev pub guarded : {A : Type 0} → Verdict → A → Answer A
+guarded Accepted a = taken a
+guarded (Declined d) a = declined (d .number)
 
 -- ---- a move entered in the lists of a year
 

@@ -1,1 +1,1 @@
-pub mod Guarded
+pub mod Ended

@@ -1,3 +1,2 @@
 pub mod Setup
 pub mod Stage
-pub mod Steps

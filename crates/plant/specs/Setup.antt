@@ -7,13 +7,15 @@ use lib.Dec.{eqb, leb, ltb}
 use lib.ListN.{length, getD, drop, replicate}
 use Rattle.amounts.specs.Class.{isClass}
 use Rattle.amounts.specs.Content.{countedOf}
-use Rattle.amounts.specs.Decline.{Answer, Check, check, checked, valueOr, outOfTurn, layout}
+use Rattle.amounts.specs.Decline.{Answer, taken, declined, Check, check, checked, valueOr, outOfTurn, layout}
 use Rattle.layout.specs.Bytes.{le, les, part, within, allZero}
 use Rattle.layout.specs.Each.{sumTo, allTo, listTo}
 use Rattle.layout.specs.Outline.{freshOutline, maySetUp}
 use Rattle.layout.specs.declared.outline.Outline.{Outline}
+use Rattle.layout.specs.declared.verdict.Verdict.the-variants.{Accepted, Declined}
 use Rattle.plant.specs.declared.setup.Rates.{Rates}
 use Rattle.plant.specs.declared.setup.Setup.{Setup}
+use Rattle.plant.specs.declared.setup.SetupEnd.{SetupEnd}
 
 -- "8: materials, 1–12. 9: stages, 1–8."
 abbrev pub materialsIn : List ℕ → ℕ
@@ -124,6 +126,11 @@ setupOf count body =
 unfoldable pub setUpOn : Setup → ℕ → List ℕ → Answer Setup
 unfolding checked
 setUpOn u count body = checked (setupChecks (u .outline) count body) (setupOf count body)
+
+-- "A decline returns its number and the book given in": what the code returns for an answer to a set-up block
+abbrev pub setupEnd : Setup → Answer Setup → SetupEnd
+setupEnd given (taken u) = record { verdict = Accepted; setup = u }
+setupEnd given (declined n) = record { verdict = Declined (record { number = n }); setup = given }
 
 -- ---- what is true of every set-up of a book
 

@@ -3,9 +3,8 @@ ghost use mathlib.Core.Path.{_≡_};
 ghost use Rattle.amounts.specs.Content.{countedOf};
 ghost use Rattle.amounts.specs.Decline.{checked, valueOr};
 ghost use Rattle.layout.specs.Verdict.{verdictOf};
-ghost use Rattle.plant.specs.Setup.{numbersIn, classesIn, contentsIn, countedAll, outlineOf, freshSetup, setupOf, setUpOn};
+ghost use Rattle.plant.specs.Setup.{numbersIn, classesIn, contentsIn, countedAll, outlineOf, freshSetup, setupOf, setUpOn, setupEnd};
 ghost use Rattle.plant.specs.Setup.{rising, allClasses, rowSum, rowFits, rowsFit, materialChecks, substanceChecks, bodyChecks, setupChecks};
-ghost use Rattle.plant.specs.Steps.{guarded};
 use amounts::class;
 use amounts::content;
 use amounts::content::Counted;
@@ -38,7 +37,7 @@ pub struct Setup {
     pub rates: [Rates; 64],
 }
 
-// What a set-up block answers, and the set-up after it where it is accepted.
+// What a set-up block answers, with the set-up after it where it is accepted, and else the one given in.
 pub struct SetupEnd {
     pub verdict: Verdict,
     pub setup: Setup,
@@ -300,7 +299,7 @@ pub fn parse(count: u8, body: &[u8]) -> Setup
 
 // The set-up with the substances and materials of a kind 1 block.
 pub fn set_up(u: Setup, count: u8, body: &[u8]) -> SetupEnd
-    ensures { λ r. ⌜ guarded (r .verdict) (r .setup) ≡ setUpOn u count (now (body .entry)) ⌝ }
+    ensures { λ r. ⌜ r ≡ setupEnd u (setUpOn u count (now (body .entry))) ⌝ }
 {
     let o = u.outline;
     let verdict = check_setup(o, count, body);

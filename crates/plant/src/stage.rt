@@ -6,9 +6,9 @@ ghost use lib.ListN.{length, drop, set};
 ghost use Rattle.amounts.specs.Decline.{checked, valueOr};
 ghost use Rattle.layout.specs.Each.{putTo};
 ghost use Rattle.layout.specs.Verdict.{verdictOf};
+ghost use Rattle.plant.specs.Setup.{setupEnd};
 ghost use Rattle.plant.specs.Stage.{secondOf, waterRow, rateRow, withStage, describedOn};
 ghost use Rattle.plant.specs.Stage.{ratesAt, ratesFit, allRatesFit, stageBodyChecks, stageChecks};
-ghost use Rattle.plant.specs.Steps.{guarded};
 use crate::setup::NO_RATES;
 use crate::setup::Rates;
 use crate::setup::Setup;
@@ -183,7 +183,7 @@ fn with_stage(u: Setup, stage: u8, body: &[u8]) -> Setup
 
 // The set-up with one stage more described by a kind 2 block.
 pub fn describe(u: Setup, stage: u8, body: &[u8]) -> SetupEnd
-    ensures { λ r. ⌜ guarded (r .verdict) (r .setup) ≡ describedOn u stage (now (body .entry)) ⌝ }
+    ensures { λ r. ⌜ r ≡ setupEnd u (describedOn u stage (now (body .entry))) ⌝ }
 {
     let o = u.outline;
     let verdict = check_stage(o, stage, body);

@@ -7,8 +7,19 @@ use Rattle.amounts.specs.declared.decline.Decline.{Decline}
 use Rattle.layout.specs.declared.verdict.Verdict.the-variants.{Accepted, Declined}
 use Rattle.book.specs.Answer.{outcome}
 use Rattle.book.specs.Site.{Sound}
+use Rattle.book.specs.Steps.{guarded}
+use Rattle.plant.specs.Setup.{setupEnd}
+use Rattle.plant.specs.declared.setup.Setup.{Setup}
+use Rattle.plant.specs.declared.setup.SetupEnd.{SetupEnd}
 use Rattle.book.specs.declared.answer.Answered.{Answered}
 use Rattle.book.specs.declared.site.Book.{Book}
+
+-- ---- a set-up block
+
+-- what it returns tells its answer
+pub end-guarded : (u : Setup) (a : Answer Setup) (r : SetupEnd) → r ≡ setupEnd u a → guarded (r .verdict) (r .setup) ≡ a
+end-guarded u (taken v) r e = rw e
+end-guarded u (declined n) r e = rw e
 
 -- ---- a call
 

@@ -29,9 +29,8 @@ use Rattle.book.specs.Answer.{outcome}
 use Rattle.book.specs.Entry.{isThere, storeAfter, sumsAfter, handledAfter, closes, yearAfter}
 use Rattle.book.specs.Posts.{turnChecks, hasRoom, roomChecks, entered, postOn, takenTo, postsOn, singleOn}
 use Rattle.book.specs.Site.{Sound, SoundYear, bookWith}
-use Rattle.book.specs.Steps.{Room, Entered, admitted, yearWith, Ran}
+use Rattle.book.specs.Steps.{Room, Entered, admitted, guarded, yearWith, Ran}
 use Rattle.plant.specs.Setup.{SoundSetup}
-use Rattle.plant.specs.Steps.{guarded}
 use Rattle.book.specs.declared.answer.Answered.{Answered}
 use Rattle.book.specs.declared.site.Book.{Book}
 use Rattle.book.specs.declared.site.Year.{Year}

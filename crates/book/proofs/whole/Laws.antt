@@ -18,8 +18,7 @@ use Rattle.layout.specs.declared.verdict.Verdict.the-variants.{Accepted, Declin
 use Rattle.book.specs.Block.{setupBy, onSetup, onYear, blockOn}
 use Rattle.book.specs.Posts.{postsOn}
 use Rattle.book.specs.Site.{Sound, bookWith, freshBook}
-use Rattle.book.specs.Steps.{Ran}
-use Rattle.plant.specs.Steps.{guarded}
+use Rattle.book.specs.Steps.{guarded, Ran}
 use Rattle.book.specs.Whole.{partsTo, partsIn, read, refused, onward, readAll}
 use Rattle.book.specs.declared.site.Book.{Book}
 use Rattle.book.specs.declared.site.Year.{Year}

@@ -11,7 +11,7 @@ use Rattle.book.specs.Answer.{outcome}
 use Rattle.book.specs.Block.{onSetup, blockOn}
 use Rattle.book.specs.Site.{Sound}
 use Rattle.book.specs.declared.answer.Answered.{Answered}
-use Rattle.plant.proofs.Guarded.{table-declined, table-accepted}
+use Rattle.plant.proofs.Ended.{table-declined, table-accepted}
 use Rattle.book.proofs.answer.Laws.{sound-after}
 use Rattle.book.proofs.block.Laws.{not-framed, is-framed, as-posts, by-setup, block-sound}
 use borrow.Author.Needs.{needs}

@@ -15,7 +15,7 @@ use Rattle.book.specs.Whole.{ended}
 use Rattle.book.specs.declared.site.Book.{Book}
 use Rattle.book.specs.declared.site.Year.{Year}
 use Rattle.book.specs.declared.whole.WholeRead.{WholeRead}
-use Rattle.plant.proofs.Guarded.{table-declined, table-accepted}
+use Rattle.plant.proofs.Ended.{table-declined, table-accepted}
 use Rattle.book.proofs.block.Laws.{not-framed}
 use Rattle.book.proofs.site.Laws.{sound-fresh}
 use Rattle.book.proofs.whole.Laws.{Upto, upto-none, upto-next, upto-stop, upto-all, end-after, end-inside, posts-refused, posts-entered, setup-refused, setup-entered}

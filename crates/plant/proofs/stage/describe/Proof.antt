@@ -1,9 +1,9 @@
-use mathlib.Core.Path.{_≡_, sym, ap, _∙_}
+use mathlib.Core.Path.{_≡_}
 use native.Mathlib.Omega.{arith}
 use denote.Ref.{now}
 use Rattle.amounts.specs.Decline.{taken, checked}
 use Rattle.plant.specs.Stage.{stageChecks, withStage, describedOn}
-use Rattle.plant.proofs.Guarded.{guard-declined, table-accepted}
+use Rattle.plant.proofs.Ended.{table-accepted, end-declined, end-accepted}
 use Rattle.plant.proofs.stage.Taken.{Accepts, accepted}
 use borrow.Author.Needs.{needs}
 use Rattle.plant.proofs.stage.describe.Statement.{statement}
@@ -32,7 +32,7 @@ returns : tie.Need-returns
 unfolding describedOn
 returns c =
     let a = c .before .before .before .before .before .args in
-    guard-declined (stageChecks (a .u .outline) (a .stage) (now (a .body))) _ (withStage (a .u) (a .stage) (now (a .body))) (c .before .before .check-stage .ensures) _ _ (c .enum-told .given .1)
+    end-declined (a .u) (withStage (a .u) (a .stage) (now (a .body))) (stageChecks (a .u .outline) (a .stage) (now (a .body))) _ (c .before .before .check-stage .ensures) _ (c .enum-told .given .1)
 
 enum-told-2 : tie.Need-enum-told-2
 enum-told-2 c = search needs
@@ -42,7 +42,11 @@ with-stage-requires c κs = let t = passes c .0 in (omega (arith, t .next, t .le
 
 returns-2 : tie.Need-returns-2
 unfolding describedOn
-returns-2 c = ap taken (c .with-stage .ensures) ∙ sym (passes (c .before) .1)
+returns-2 c =
+    let k = c .before in
+    let a = start k .args in
+    let body = now (a .body) in
+    end-accepted (a .u) (withStage (a .u) (a .stage) body) _ (stageChecks (a .u .outline) (a .stage) body) (c .with-stage .ensures) (passes k .1)
 
 pub describe-spec : {M : Type 1} → statement M
 describe-spec =
