@@ -7,11 +7,11 @@ use Rattle.layout.specs.declared.holds.Holds.{Holds}
 use Rattle.layout.specs.declared.holds.Holds.the-variants.{SetUp, Posts}
 use Rattle.layout.specs.declared.holds.SetupPart.{SetupPart}
 use Rattle.layout.specs.declared.holds.SetupPart.the-variants.{Materials, Stage}
+use Rattle.plant.specs.Setup.{setUpOn}
+use Rattle.plant.specs.Stage.{describedOn}
 use Rattle.plant.specs.declared.setup.Setup.{Setup}
 use Rattle.book.specs.Posts.{postsOn}
-use Rattle.book.specs.Setup.{setUpOn}
 use Rattle.book.specs.Site.{bookWith}
-use Rattle.book.specs.Stage.{describedOn}
 use Rattle.book.specs.declared.site.Book.{Book}
 use Rattle.book.specs.declared.site.Year.{Year}
 

@@ -29,12 +29,12 @@ storeAfter store Close = store
 
 -- "the stage's holding of each substance grows by g times counted content"; "The holding grows"; "The holding falls by g times content, which is added under that
 -- name", "by the loss, which goes to air untreated"; found "goes to off site in the same step"; "Each holding moves to gas or waste water, by that pair's side"
-abbrev pub sumsAfter : List ℕ → List ℕ → List ℕ → Move → List ℕ
-sumsAfter counted sides sums (Received m g) = sums
-sumsAfter counted sides sums (Issued m stage g) = raised (cellOf held stage) (brings counted m g) sums 8
-sumsAfter counted sides sums (Brought account stage s n) = added sums (cellOf account stage s) n
-sumsAfter counted sides sums (Gone account stage s n) = moved sums (cellOf held stage s) (cellOf account stage s) n
-sumsAfter counted sides sums Close = settled sums sides 64
+abbrev pub sumsAfter : List ℕ → List Bool → List ℕ → Move → List ℕ
+sumsAfter counted toWater sums (Received m g) = sums
+sumsAfter counted toWater sums (Issued m stage g) = raised (cellOf held stage) (brings counted m g) sums 8
+sumsAfter counted toWater sums (Brought account stage s n) = added sums (cellOf account stage s) n
+sumsAfter counted toWater sums (Gone account stage s n) = moved sums (cellOf held stage s) (cellOf account stage s) n
+sumsAfter counted toWater sums Close = settled sums toWater 64
 
 -- "Handled is issued plus formed", and found "counts as handled"
 abbrev pub handledAfter : List ℕ → List ℕ → Move → List ℕ
@@ -57,7 +57,7 @@ abbrev pub yearAfter : Setup → Year → Move → Year
 yearAfter u y m =
     record {
       store = storeAfter (y .store) m;
-      sums = sumsAfter (u .counted) (u .sides) (y .sums) m;
+      sums = sumsAfter (u .counted) (u .«to_water») (y .sums) m;
       handled = handledAfter (u .counted) (y .handled) m;
       posts = y .posts + 1;
       closed = closes m;

@@ -1,8 +1,7 @@
 -- The ledger: one sum in micrograms for each account, stage and substance.
 use Prim.Native.Nat.{ℕ, zero, suc, _+_, _-_, _*_}
-use mathlib.Core.Bool.{cond}
+use mathlib.Core.Bool.{Bool, true, false}
 use mathlib.Core.List.{List}
-use lib.Dec.{eqb}
 use lib.ListN.{getD, set}
 use Rattle.layout.specs.Each.{sumTo, putTo}
 use Rattle.post.specs.Account.{held, gas, water}
@@ -38,14 +37,15 @@ raised place amount l n = putTo place (λ k. getD l (place k) 0 + amount k) l n
 abbrev pub brings : List ℕ → ℕ → ℕ → ℕ → ℕ
 brings counted m g s = g * getD counted (m * 8 + s) 0
 
--- "Each holding moves to gas or waste water, by that pair's side": 2 is water, and any other side, which is 1, is gas
-unfoldable pub closesTo : ℕ → ℕ
-closesTo side = cond (eqb side 2) water gas
+-- "Each holding moves to gas or waste water, by that pair's side", which is water or is not
+unfoldable pub closesTo : Bool → ℕ
+closesTo true = water
+closesTo false = gas
 
 -- the holdings of the pairs 0 .. k - 1 closed
-unfoldable pub settled : List ℕ → List ℕ → ℕ → List ℕ
+unfoldable pub settled : List ℕ → List Bool → ℕ → List ℕ
 unfolding closesTo
-settled sums sides zero = sums
-settled sums sides (suc k) =
-    let before = settled sums sides k in
-    moved before (at held k) (at (closesTo (getD sides k 0)) k) (getD before (at held k) 0)
+settled sums toWater zero = sums
+settled sums toWater (suc k) =
+    let before = settled sums toWater k in
+    moved before (at held k) (at (closesTo (getD toWater k false)) k) (getD before (at held k) 0)

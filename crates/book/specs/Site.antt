@@ -5,26 +5,12 @@ use mathlib.Core.Bool.{false}
 use mathlib.Core.List.{List}
 use lib.ListN.{length, getD, replicate}
 use Rattle.layout.specs.Each.{sumTo}
-use Rattle.layout.specs.Outline.{freshOutline, mayPost}
-use Rattle.plant.specs.Setup.{noRates}
-use Rattle.plant.specs.declared.setup.Rates.{Rates}
+use Rattle.layout.specs.Outline.{mayPost}
+use Rattle.plant.specs.Setup.{freshSetup, SoundSetup}
 use Rattle.plant.specs.declared.setup.Setup.{Setup}
 use Rattle.book.specs.Ledger.{brings, total}
 use Rattle.book.specs.declared.site.Book.{Book}
 use Rattle.book.specs.declared.site.Year.{Year}
-
-abbrev pub freshSetup : Setup
-freshSetup =
-    record {
-      outline = freshOutline;
-      numbers = replicate 8 0;
-      classes = replicate 8 0;
-      counted = replicate 96 0;
-      «water_to» = replicate 8 0;
-      «residue_to» = replicate 8 0;
-      sides = replicate 64 0;
-      rates = replicate 64 noRates;
-    }
 
 abbrev pub freshYear : Year
 freshYear = record { store = replicate 12 0; sums = replicate 576 0; handled = replicate 8 0; posts = 0; closed = false }
@@ -46,27 +32,6 @@ stored u y s = storedTo (y .store) (u .counted) s 12
 -- what a year holds of a substance, in store and out of it
 abbrev pub inYear : Setup → Year → ℕ → ℕ
 inYear u y s = total (y .sums) s + stored u y s
-
--- "to 1,000,000"
-pub record Rated (r : Rates) : Type 0 where
-  pub gas-removal : r .«gas_removal» ≤ 1000000
-  pub gas-destruction : r .«gas_destruction» ≤ 1000000
-  pub water-removal : r .«water_removal» ≤ 1000000
-  pub water-destruction : r .«water_destruction» ≤ 1000000
-
-pub record SoundSetup (u : Setup) : Type 0 where
-  pub substances-few : u .outline .substances ≤ 8
-  pub materials-few : u .outline .materials ≤ 12
-  pub stages-few : u .outline .stages ≤ 8
-  pub described-few : u .outline .described ≤ u .outline .stages
-  -- a book has stages once it has substances
-  pub stages-later : u .outline .substances ≡ 0 → u .outline .stages ≡ 0
-  pub counted-small : (i : ℕ) → getD (u .counted) i 0 ≤ 1000000
-  pub rated : (pair : ℕ) → Rated (getD (u .rates) pair noRates)
-  pub rates-long : length (u .rates) ≡ 64
-  pub sides-long : length (u .sides) ≡ 64
-  pub water-long : length (u .«water_to») ≡ 8
-  pub residue-long : length (u .«residue_to») ≡ 8
 
 -- A post brings in at most 2×10^15 micrograms of a substance, so that no sum can pass 64 bits. The close is the post past 4,000.
 pub record SoundYear (u : Setup) (y : Year) : Type 0 where

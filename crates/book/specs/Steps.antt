@@ -39,10 +39,10 @@ pub record Room (counted store sums handled : List ℕ) (m : Move) : Type 0 wher
   pub handled-few : (s : ℕ) → s < 8 → getD handled s 0 ≤ 2 * 10 ^ 15 * 4000
 
 -- whether what leaves was there, and the lists where it was
-pub record Entered (counted sides store sums handled : List ℕ) (m : Move) (store' sums' handled' : List ℕ) (r : Bool) : Type 0 where
+pub record Entered (counted : List ℕ) (toWater : List Bool) (store sums handled : List ℕ) (m : Move) (store' sums' handled' : List ℕ) (r : Bool) : Type 0 where
   pub there : r ≡ isThere store sums m
   pub store-is : r ≡ true → store' ≡ storeAfter store m
-  pub sums-is : r ≡ true → sums' ≡ sumsAfter counted sides sums m
+  pub sums-is : r ≡ true → sums' ≡ sumsAfter counted toWater sums m
   pub handled-is : r ≡ true → handled' ≡ handledAfter counted handled m
 
 -- ---- a run of posts

@@ -3,21 +3,22 @@ ghost use mathlib.Core.Path.{_≡_};
 ghost use Prim.Native.Nat.{_<_};
 ghost use Rattle.book.specs.Answer.{outcome};
 ghost use Rattle.book.specs.Block.{setupBy, onSetup, blockOn};
-ghost use Rattle.book.specs.Site.{Sound, SoundSetup};
+ghost use Rattle.book.specs.Site.{Sound};
 ghost use Rattle.book.specs.Steps.{guarded};
+ghost use Rattle.plant.specs.Setup.{SoundSetup};
 use crate::answer;
 use crate::answer::Answered;
 use crate::posts;
-use crate::setup;
-use crate::setup::SetupEnd;
 use crate::site::Book;
-use crate::stage;
 use layout::frame;
 use layout::holds::Holds;
 use layout::holds::HoldsRead;
 use layout::holds::SetupPart;
 use layout::verdict::Verdict;
+use plant::setup;
 use plant::setup::Setup;
+use plant::setup::SetupEnd;
+use plant::stage;
 
 // A set-up with a part more.
 pub(crate) fn set_up_by(u: Setup, part: SetupPart, count: u8, body: &[u8]) -> SetupEnd

@@ -12,11 +12,11 @@ pub(crate) fn enter<'a>(
     sums: &mut [u64; 576],
     handled: &mut [u64; 8],
     counted: &'a [u32; 96],
-    sides: &'a [u8; 64],
+    to_water: &'a [bool; 64],
     m: Move,
 ) -> bool
     requires { ⌜ Room (now counted) (now store) (now sums) (now handled) m ⌝ }
-    ensures { λ r. ⌜ Entered (now (counted .entry)) (now (sides .entry)) (now (store .entry)) (now (sums .entry)) (now (handled .entry)) m
+    ensures { λ r. ⌜ Entered (now (counted .entry)) (now («to_water» .entry)) (now (store .entry)) (now (sums .entry)) (now (handled .entry)) m
         (now (store .exit)) (now (sums .exit)) (now (handled .exit)) r ⌝ }
 {
     match m {
@@ -62,7 +62,7 @@ pub(crate) fn enter<'a>(
             true
         }
         Move::Close => {
-            ledger::settle(sums, sides);
+            ledger::settle(sums, to_water);
             true
         }
     }

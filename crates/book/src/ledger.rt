@@ -51,21 +51,21 @@ pub(crate) fn issue(
     }
 }
 
-fn closes_to(side: u8) -> usize
-    ensures { λ x. ⌜ x ≡ closesTo side ⌝ }
+fn closes_to(water: bool) -> usize
+    ensures { λ x. ⌜ x ≡ closesTo water ⌝ }
 {
-    if side == 2 { WATER } else { GAS }
+    if water { WATER } else { GAS }
 }
 
 // Each holding goes to gas or to waste water, by its pair's side.
-pub(crate) fn settle(sums: &mut [u64; 576], sides: &[u8; 64])
+pub(crate) fn settle(sums: &mut [u64; 576], to_water: &[bool; 64])
     requires { ⌜ ((s : ℕ) → s < 8 → total (now sums) s < 2 ^ 64) ⌝ }
     requires { ⌜ length (now sums) ≡ 576 ⌝ }
-    ensures { λ r. ⌜ now (sums .exit) ≡ settled (now (sums .entry)) (now (sides .entry)) 64 ⌝ }
+    ensures { λ r. ⌜ now (sums .exit) ≡ settled (now (sums .entry)) (now («to_water» .entry)) 64 ⌝ }
 {
     let mut pair: usize = 0;
     while pair < 64 {
-        let to = closes_to(sides[pair]) * 64 + pair;
+        let to = closes_to(to_water[pair]) * 64 + pair;
         let from = HELD * 64 + pair;
         let amount = sums[from];
         shift(sums, from, to, amount);

@@ -4,7 +4,5 @@ pub mod block;
 pub mod entry;
 pub mod ledger;
 pub mod posts;
-pub mod setup;
 pub mod site;
-pub mod stage;
 pub mod whole;

@@ -7,8 +7,9 @@ ghost use Rattle.layout.specs.Posts.{partOf};
 ghost use Rattle.book.specs.Answer.{outcome};
 ghost use Rattle.book.specs.Block.{onYear};
 ghost use Rattle.book.specs.Posts.{hasRoom, takenTo, postsOn, singleOn};
-ghost use Rattle.book.specs.Site.{Sound, SoundSetup, SoundYear, bookWith};
+ghost use Rattle.book.specs.Site.{Sound, SoundYear, bookWith};
 ghost use Rattle.book.specs.Steps.{admitted, guarded, yearWith, Ran};
+ghost use Rattle.plant.specs.Setup.{SoundSetup};
 use crate::answer;
 use crate::answer::Answered;
 use crate::entry;
@@ -81,7 +82,7 @@ pub(crate) fn run(
 {
     let numbers = setup.numbers;
     let counted = setup.counted;
-    let sides = setup.sides;
+    let to_water = setup.to_water;
     let mut count = posts;
     let mut ended = closed;
     let mut i: usize = 0;
@@ -97,7 +98,7 @@ pub(crate) fn run(
                 };
             }
             MoveRead::Known(m) => {
-                if !entry::enter(store, sums, handled, &counted, &sides, m) {
+                if !entry::enter(store, sums, handled, &counted, &to_water, m) {
                     return RunEnd {
                         verdict: Verdict::Declined(decline::SHORT),
                         posts: count,

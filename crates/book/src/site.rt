@@ -1,8 +1,7 @@
 // The book of a site, by value: its set-up, its year, which posts change, and its count of blocks.
 ghost use mathlib.Core.Path.{_≡_};
-ghost use Rattle.book.specs.Site.{freshSetup, freshBook, Sound};
-use layout::outline::Outline;
-use plant::setup::NO_RATES;
+ghost use Rattle.book.specs.Site.{freshBook, Sound};
+use plant::setup;
 use plant::setup::Setup;
 
 // The store in grams by material; the ledger's sums in micrograms, at account * 64 + stage * 8 + substance; what was handled of each
@@ -21,32 +20,12 @@ pub struct Book {
     pub(crate) blocks: u32,
 }
 
-pub(crate) fn fresh_setup() -> Setup
-    ensures { λ r. ⌜ r ≡ freshSetup ⌝ }
-{
-    Setup {
-        outline: Outline {
-            substances: 0,
-            materials: 0,
-            stages: 0,
-            described: 0,
-        },
-        numbers: [0; 8],
-        classes: [0; 8],
-        counted: [0; 96],
-        water_to: [0; 8],
-        residue_to: [0; 8],
-        sides: [0; 64],
-        rates: [NO_RATES; 64],
-    }
-}
-
 pub fn fresh() -> Book
     ensures { λ r. ⌜ r ≡ freshBook ⌝ }
     ensures { λ r. ⌜ Sound r ⌝ }
 {
     Book {
-        setup: fresh_setup(),
+        setup: setup::fresh_setup(),
         year: Year {
             store: [0; 12],
             sums: [0; 576],

@@ -79,7 +79,7 @@ pub fn take_whole(journal: &[u8]) -> WholeRead
     ensures { λ r. ⌜ r ≡ ended (readAll freshBook 0 (partsIn (now (journal .entry)))) ⌝ }
     ensures { λ r. ⌜ Sound (r .book) ⌝ }
 {
-    let mut setup = site::fresh_setup();
+    let mut setup = plant::setup::fresh_setup();
     let store = &mut [0u64; 12];
     let sums = &mut [0u64; 576];
     let handled = &mut [0u64; 8];

@@ -1,6 +1,6 @@
 -- What a move before the close does to the sums of each stage and substance: a holding grows by what comes to it and falls by what leaves it. Assumes nothing.
 use mathlib.Core.Path.{_≡_, refl, sym, ap, subst}
-use mathlib.Core.Bool.{true, false, true≢false, cond}
+use mathlib.Core.Bool.{Bool, true, false, true≢false, cond}
 use mathlib.Core.List.{List}
 use Prim.Native.Nat.{ℕ, _+_, _-_, _≤_, _<_}
 use native.Mathlib.Decide.{ℕ-discrete}
@@ -69,7 +69,7 @@ pub record Flows (counted sums : List ℕ) (m : Move) (next : List ℕ) : Type 0
 none-leaves : sumTo 8 (λ i. 0) ≡ 0
 none-leaves = sum-none 8 (λ i. 0) (λ i h. refl)
 
-module _ (counted sides store sums : List ℕ) (long : length sums ≡ 576) where
+module _ (counted : List ℕ) (sides : List Bool) (store sums : List ℕ) (long : length sums ≡ 576) where
   issued-at : (m j g k s : ℕ) → j < 8 → k < 8 → s < 8 → cell (raised (cellOf held j) (brings counted m g) sums 8) held k s ≡ cell sums held k s + cond (eqb j k) (brings counted m g s) 0
   issued-at m j g k s hj hk hs = go (ℕ-discrete j k)
     where

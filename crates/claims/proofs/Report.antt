@@ -31,7 +31,7 @@ use Rattle.report.proofs.report.Laws.{report-handled, report-entered, headings-
 use Rattle.claims.specs.Demand as demand
 use Rattle.claims.specs.Demand.{Balanced}
 use Rattle.claims.specs.Standing.{Standing, countedIn, movesOf}
-use Rattle.claims.specs.Weighing.{waterTo, residueTo, sideFor, ratesFor, receives, issues, brought, received, issued, store, formed, found, handledBy, came}
+use Rattle.claims.specs.Weighing.{seweredAt, landfilledAt, waterFor, ratesFor, receives, issues, brought, received, issued, store, formed, found, handledBy, came}
 use Rattle.claims.specs.Weighing.{remains, under, anyCloses, isClosed, heldAt, toGas, toWater, gasTotal, waterTotal, lineOf, reportBy, Weighed}
 use Rattle.claims.proofs.Setting.{SetBy}
 use Rattle.claims.proofs.State.{cameSum, leftSum, underSum, State, still-open, shut}
@@ -97,37 +97,28 @@ module _ (w : Standing) (named : Each Named (movesOf w)) (s : ℕ) where
 -- ---- a stage's sums
 
 -- the close moves to gas, or to waste water
-gas-side : (side n : ℕ) → cond (eqb gas (closesTo side)) n 0 ≡ toGas side n
+gas-side : (side : Bool) (n : ℕ) → cond (eqb gas (closesTo side)) n 0 ≡ toGas side n
 unfolding closesTo
-gas-side side n = go (eqb side 2)
-  where
-    go : (t : Bool) → cond (eqb gas (cond t water gas)) n 0 ≡ cond t 0 n
-    go true = refl
-    go false = refl
+gas-side true n = refl
+gas-side false n = refl
 
-water-side : (side n : ℕ) → cond (eqb water (closesTo side)) n 0 ≡ toWater side n
+water-side : (side : Bool) (n : ℕ) → cond (eqb water (closesTo side)) n 0 ≡ toWater side n
 unfolding closesTo
-water-side side n = go (eqb side 2)
-  where
-    go : (t : Bool) → cond (eqb water (cond t water gas)) n 0 ≡ cond t n 0
-    go true = refl
-    go false = refl
+water-side true n = refl
+water-side false n = refl
 
 -- and to no other account
-no-side : (account side n : ℕ) → (account ≡ gas → ⊥) → (account ≡ water → ⊥) → cond (eqb account (closesTo side)) n 0 ≡ 0
+no-side : (account : ℕ) (side : Bool) (n : ℕ) → (account ≡ gas → ⊥) → (account ≡ water → ⊥) → cond (eqb account (closesTo side)) n 0 ≡ 0
 unfolding closesTo
-no-side account side n d e = go (eqb side 2)
-  where
-    go : (t : Bool) → cond (eqb account (cond t water gas)) n 0 ≡ 0
-    go true = rw (ne-eqb account water e)
-    go false = rw (ne-eqb account gas d)
+no-side account true n d e = rw (ne-eqb account water e)
+no-side account false n d e = rw (ne-eqb account gas d)
 
-module _ (counted sides : List ℕ) (ms : List Move) (sums : List ℕ) (closed : Bool) (k s : ℕ) (hk : k < 8) (hs : s < 8) where
+module _ (counted : List ℕ) (sides : List Bool) (ms : List Move) (sums : List ℕ) (closed : Bool) (k s : ℕ) (hk : k < 8) (hs : s < 8) where
   abbrev rest : ℕ
   rest = cameSum counted ms k s - leftSum counted ms k s
 
-  abbrev side : ℕ
-  side = getD sides (k * 8 + s) 0
+  abbrev side : Bool
+  side = getD sides (k * 8 + s) false
 
   enough : State counted sides ms sums closed → leftSum counted ms k s ≤ cameSum counted ms k s
   enough (still-open e q o) = omega (arith, o .kept k s hk hs)
@@ -167,7 +158,7 @@ stageBy w s k =
       water = waterTotal w s k;
       vapour = under vapour w s k;
     })
-    (ratesFor w k s) (waterTo w k) (residueTo w k)
+    (ratesFor w k s) (seweredAt w k) (landfilledAt w k)
 
 -- entered less handled is what came less what was issued
 weighed-stock : (entered handled store weight came issued formed found : ℕ) → entered ≡ store + weight → handled ≡ weight
@@ -196,31 +187,31 @@ module _ (w : Standing) (b : Book) (h : Tells w b) (up : SetBy (w .first) (w .st
   u = b .setup
 
   module _ (k : ℕ) (hk : k < 8) where
-    abbrev told : State (countedIn w) (u .sides) (movesOf w) sums (b .year .closed)
+    abbrev told : State (countedIn w) (u .«to_water») (movesOf w) sums (b .year .closed)
     told = h .state
 
-    side-is : getD (u .sides) (k * 8 + s) 0 ≡ sideFor w k s
+    side-is : getD (u .«to_water») (k * 8 + s) false ≡ waterFor w k s
     side-is = up .sides k s hk l
 
     held-is : cell sums held k s ≡ heldAt w s k
-    held-is = held-by (countedIn w) (u .sides) (movesOf w) sums (b .year .closed) k s hk few told
+    held-is = held-by (countedIn w) (u .«to_water») (movesOf w) sums (b .year .closed) k s hk few told
 
     named-is : (a : ℕ) → 1 ≤ a → a < 9 → (a ≡ gas → ⊥) → (a ≡ water → ⊥) → cell sums a k s ≡ under a w s k
-    named-is a low high d e = named-by (countedIn w) (u .sides) (movesOf w) sums (b .year .closed) k s hk few told a low high d e
+    named-is a low high d e = named-by (countedIn w) (u .«to_water») (movesOf w) sums (b .year .closed) k s hk few told a low high d e
 
     gas-is : cell sums gas k s ≡ gasTotal w s k
     gas-is =
-        gas-by (countedIn w) (u .sides) (movesOf w) sums (b .year .closed) k s hk few told
-        ∙ ap (λ (x : ℕ). under gas w s k + cond (isClosed w) (toGas x (remains w s k)) 0) side-is
+        gas-by (countedIn w) (u .«to_water») (movesOf w) sums (b .year .closed) k s hk few told
+        ∙ ap (λ (x : Bool). under gas w s k + cond (isClosed w) (toGas x (remains w s k)) 0) side-is
 
     water-is : cell sums water k s ≡ waterTotal w s k
     water-is =
-        water-by (countedIn w) (u .sides) (movesOf w) sums (b .year .closed) k s hk few told
-        ∙ ap (λ (x : ℕ). under water w s k + cond (isClosed w) (toWater x (remains w s k)) 0) side-is
+        water-by (countedIn w) (u .«to_water») (movesOf w) sums (b .year .closed) k s hk few told
+        ∙ ap (λ (x : Bool). under water w s k + cond (isClosed w) (toWater x (remains w s k)) 0) side-is
 
     stage-is : stageLine sums u s k ≡ stageBy w s k
     stage-is =
-        ap (λ (r : Rates). lineFor (cellsOf sums k s) r (getD (u .«water_to») k 0) (getD (u .«residue_to») k 0)) (up .rates k s hk l)
+        ap (λ (r : Rates). lineFor (cellsOf sums k s) r (getD (u .«to_sewer») k false) (getD (u .«to_landfill») k false)) (up .rates k s hk l)
         ∙ rw (
           held-is,
           named-is shipped (omega arith) (omega arith) (λ e. omega arith) (λ e. omega arith),
@@ -272,7 +263,7 @@ module _ (w : Standing) (b : Book) (h : Tells w b) (up : SetBy (w .first) (w .st
   weighs =
       record {
         in-store = omega (arith, stock-is);
-        in-holding = λ k hk. enough (countedIn w) (u .sides) (movesOf w) sums (b .year .closed) k s hk few (h .state);
+        in-holding = λ k hk. enough (countedIn w) (u .«to_water») (movesOf w) sums (b .year .closed) k s hk few (h .state);
         handled-is = omega (arith, stock-is);
       }
 

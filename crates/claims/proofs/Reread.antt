@@ -15,7 +15,8 @@ use Rattle.layout.specs.Frame.{blockKind, countOf, bodyOf, frameChecks, blockOf
 use Rattle.layout.specs.Holds.{holdsOf}
 use Rattle.layout.specs.Outline.{mayPost, freshOutline}
 use Rattle.layout.specs.Posts.{postIn}
-use Rattle.plant.specs.Setup.{setupOf}
+use Rattle.plant.specs.Setup.{freshSetup, setupOf}
+use Rattle.plant.specs.Stage.{withStage}
 use Rattle.layout.specs.declared.holds.Holds.the-variants.{SetUp, Posts}
 use Rattle.layout.specs.declared.holds.SetupPart.{SetupPart}
 use Rattle.layout.specs.declared.outline.Outline.{Outline}
@@ -24,8 +25,7 @@ use Rattle.layout.proofs.frame.Laws.{framed}
 use Rattle.layout.proofs.frame.Made.{held-made}
 use Rattle.book.specs.Block.{blockOn}
 use Rattle.book.specs.Posts.{postOn, takenTo, singleOn}
-use Rattle.book.specs.Site.{freshBook, freshSetup, freshYear, bookWith}
-use Rattle.book.specs.Stage.{withStage}
+use Rattle.book.specs.Site.{freshBook, freshYear, bookWith}
 use Rattle.book.specs.Whole.{partsTo, partsIn, read, onward, readAll}
 use Rattle.book.specs.declared.site.Book.{Book}
 use Rattle.book.specs.declared.site.Year.{Year}
@@ -33,8 +33,8 @@ use Rattle.book.proofs.block.Laws.{Done, set-up, described, block-done}
 use Rattle.book.proofs.block.Laws as blocks
 use Rattle.book.proofs.posts.Laws as posts
 use Rattle.book.proofs.posts.Laws.{none-yet}
-use Rattle.book.proofs.setup.Laws as first
-use Rattle.book.proofs.stage.Laws as stage
+use Rattle.plant.proofs.setup.Taken as first
+use Rattle.plant.proofs.stage.Taken as stage
 use Rattle.text.specs.Print.{title, linesTo}
 use Rattle.journal.specs.Reading.{outcomeText}
 use Rattle.report.specs.Report.{reportAt}

@@ -1,6 +1,6 @@
 -- The set-up of a book is what the accepted set-up blocks say. Assumes nothing.
 use mathlib.Core.Path.{_≡_, refl, sym, ap, subst, _∙_}
-use mathlib.Core.Bool.{cond}
+use mathlib.Core.Bool.{Bool, false, cond}
 use mathlib.Core.List.{List, [], _∷_, _++_}
 use Prim.Native.Nat.{ℕ, _+_, _*_, _≤_, _<_}
 use native.Mathlib.Decide.{ℕ-discrete}
@@ -10,15 +10,14 @@ use lib.Dec.{eqb}
 use lib.ListN.{length, getD, drop, set}
 use lib.Seq.{getD-set-same, getD-set-other}
 use Rattle.layout.specs.Each.{putTo}
-use Rattle.plant.specs.Setup.{noRates, numbersIn, classesIn, contentsIn, countedAll, setupOf}
-use Rattle.plant.specs.Stage.{sideRow, rateRow}
+use Rattle.amounts.specs.Decline.{valueOr}
+use Rattle.plant.specs.Setup.{noRates, numbersIn, classesIn, contentsIn, countedAll, setupOf, SoundSetup}
+use Rattle.plant.specs.Stage.{secondOf, sewered, landfilled, waterRow, rateRow, withStage}
 use Rattle.plant.specs.declared.setup.Setup.{Setup}
 use Rattle.layout.proofs.Each.{put-at, put-other}
 use Rattle.plant.proofs.stage.Laws as stage-laws
-use Rattle.book.specs.Site.{SoundSetup}
-use Rattle.book.specs.Stage.{withStage}
-use Rattle.book.proofs.site.Laws.{same-at}
-use Rattle.book.proofs.stage.Laws as stage
+use Rattle.plant.proofs.setup.Taken.{same-at}
+use Rattle.plant.proofs.stage.Taken as stage
 use Rattle.layout.specs.Frame.{countOf, bodyOf}
 use Rattle.claims.specs.Weighing.{stageIn}
 
@@ -50,9 +49,14 @@ stage-none : (n : ℕ) → stageIn n [] ≡ []
 unfolding stageIn
 stage-none n = refl
 
--- ---- rates
+-- ---- of no bytes
 
--- no bytes are no rates
+-- the first case
+no-case : valueOr false (secondOf 0) ≡ false
+unfolding secondOf
+no-case = refl
+
+-- no rates
 no-row : (s : ℕ) → rateRow (drop 2 []) s ≡ noRates
 no-row s = sym (stage-laws.no-row (s * 17) [] (omega arith))
 
@@ -65,9 +69,9 @@ pub record SetBy (t : List ℕ) (stages : List (List ℕ)) (u : Setup) : Type 0 
   pub classes : u .classes ≡ classesIn (bodyOf t)
   pub counted : u .counted ≡ countedAll (classesIn (bodyOf t)) (contentsIn (bodyOf t))
   pub below : Below (u .outline .described) stages
-  pub water : (k : ℕ) → k < 8 → getD (u .«water_to») k 0 ≡ getD (stageIn k stages) 0 0
-  pub residue : (k : ℕ) → k < 8 → getD (u .«residue_to») k 0 ≡ getD (stageIn k stages) 1 0
-  pub sides : (k s : ℕ) → k < 8 → s < u .outline .substances → getD (u .sides) (k * 8 + s) 0 ≡ sideRow (drop 2 (stageIn k stages)) s
+  pub water : (k : ℕ) → k < 8 → getD (u .«to_sewer») k false ≡ sewered (stageIn k stages)
+  pub residue : (k : ℕ) → k < 8 → getD (u .«to_landfill») k false ≡ landfilled (stageIn k stages)
+  pub sides : (k s : ℕ) → k < 8 → s < u .outline .substances → getD (u .«to_water») (k * 8 + s) false ≡ waterRow (drop 2 (stageIn k stages)) s
   pub rates : (k s : ℕ) → k < 8 → s < u .outline .substances → getD (u .rates) (k * 8 + s) noRates ≡ rateRow (drop 2 (stageIn k stages)) s
 
 -- the substances and materials, and no stage yet
@@ -80,9 +84,9 @@ set-by t l =
       classes = refl;
       counted = refl;
       below = tt;
-      water = λ k h. rw (stage-none k) (same-at {A = ℕ} 8 k 0);
-      residue = λ k h. rw (stage-none k) (same-at {A = ℕ} 8 k 0);
-      sides = λ k s h l. same-at {A = ℕ} 64 (k * 8 + s) 0 ∙ sym (ap (λ (x : List ℕ). sideRow (drop 2 x) s) (stage-none k));
+      water = λ k h. same-at 8 k false ∙ sym (ap sewered (stage-none k) ∙ no-case);
+      residue = λ k h. same-at 8 k false ∙ sym (ap landfilled (stage-none k) ∙ no-case);
+      sides = λ k s h l. same-at 64 (k * 8 + s) false ∙ sym (ap (λ (x : List ℕ). waterRow (drop 2 x) s) (stage-none k) ∙ no-case);
       rates = λ k s h l. same-at 64 (k * 8 + s) noRates ∙ sym (ap (λ (x : List ℕ). rateRow (drop 2 x) s) (stage-none k) ∙ no-row s);
     }
 
@@ -92,19 +96,19 @@ module _ (t x : List ℕ) (stages : List (List ℕ)) (u : Setup) (h : SetBy t st
   few = omega (arith, a .next, a .left, w .stages-few)
 
   -- what is written at the stage's place is there, and the other places stand
-  destination : (l : List ℕ) (i : ℕ) → length l ≡ 8 → ((k : ℕ) → k < 8 → getD l k 0 ≡ getD (stageIn k stages) i 0)
-      → (k : ℕ) → k < 8 → getD (set l (countOf x) (getD (bodyOf x) i 0)) k 0 ≡ getD (stageIn k (stages ++ (x ∷ []))) i 0
-  destination l i long before k hk = go (ℕ-discrete (countOf x) k)
+  destination : (case : List ℕ → Bool) (l : List Bool) → length l ≡ 8 → ((k : ℕ) → k < 8 → getD l k false ≡ case (stageIn k stages))
+      → (k : ℕ) → k < 8 → getD (set l (countOf x) (case (bodyOf x))) k false ≡ case (stageIn k (stages ++ (x ∷ [])))
+  destination case l long before k hk = go (ℕ-discrete (countOf x) k)
     where
-      go : Dec (countOf x ≡ k) → getD (set l (countOf x) (getD (bodyOf x) i 0)) k 0 ≡ getD (stageIn k (stages ++ (x ∷ []))) i 0
+      go : Dec (countOf x ≡ k) → getD (set l (countOf x) (case (bodyOf x))) k false ≡ case (stageIn k (stages ++ (x ∷ [])))
       go (yes e) =
-          subst (λ (j : ℕ). getD (set l (countOf x) (getD (bodyOf x) i 0)) j 0 ≡ getD (stageIn j (stages ++ (x ∷ []))) i 0) e
-          (getD-set-same l (countOf x) (getD (bodyOf x) i 0) 0 (omega (arith, few))
-          ∙ ap (λ (y : List ℕ). getD y i 0) (sym (stage-new (countOf x) stages x refl (subst (λ (n : ℕ). Below n stages) (sym (a .next)) (h .below)))))
+          subst (λ (j : ℕ). getD (set l (countOf x) (case (bodyOf x))) j false ≡ case (stageIn j (stages ++ (x ∷ [])))) e
+          (getD-set-same l (countOf x) (case (bodyOf x)) false (omega (arith, few))
+          ∙ ap case (sym (stage-new (countOf x) stages x refl (subst (λ (n : ℕ). Below n stages) (sym (a .next)) (h .below)))))
       go (no d) =
-          getD-set-other l (countOf x) k (getD (bodyOf x) i 0) 0 (λ e. d (sym e))
+          getD-set-other l (countOf x) k (case (bodyOf x)) false (λ e. d (sym e))
           ∙ before k hk
-          ∙ ap (λ (y : List ℕ). getD y i 0) (sym (stage-old k stages x d))
+          ∙ ap case (sym (stage-old k stages x d))
 
   -- and so for the pairs of the stage
   module _ {A : Type 0} (row : List ℕ → ℕ → A) (l : List A) (d : A) (long : length l ≡ 64)
@@ -135,8 +139,8 @@ module _ (t x : List ℕ) (stages : List (List ℕ)) (u : Setup) (h : SetBy t st
         classes = h .classes;
         counted = h .counted;
         below = below-next (countOf x) stages x refl (subst (λ (n : ℕ). Below n stages) (sym (a .next)) (h .below));
-        water = destination (u .«water_to») 0 (w .water-long) (h .water);
-        residue = destination (u .«residue_to») 1 (w .residue-long) (h .residue);
-        sides = pairs sideRow (u .sides) 0 (w .sides-long) (h .sides);
+        water = destination sewered (u .«to_sewer») (w .sewer-long) (h .water);
+        residue = destination landfilled (u .«to_landfill») (w .landfill-long) (h .residue);
+        sides = pairs waterRow (u .«to_water») false (w .sides-long) (h .sides);
         rates = pairs rateRow (u .rates) noRates (w .rates-long) (h .rates);
       }

@@ -40,19 +40,20 @@ pub record Open (counted : List ℕ) (ms : List Move) (sums : List ℕ) : Type 0
   pub gone : (a k s : ℕ) → 1 ≤ a → a < 9 → k < 8 → s < 8 → cell sums a k s ≡ underSum counted ms a k s
 
 -- after it the holding has gone to the account of the pair's side
-pub record Shut (counted sides : List ℕ) (ms : List Move) (sums : List ℕ) : Type 0 where
+pub record Shut (counted : List ℕ) (sides : List Bool) (ms : List Move) (sums : List ℕ) : Type 0 where
   pub enough : (k s : ℕ) → k < 8 → s < 8 → leftSum counted ms k s ≤ cameSum counted ms k s
   pub none-held : (k s : ℕ) → k < 8 → s < 8 → cell sums held k s ≡ 0
   pub gone : (a k s : ℕ) → 1 ≤ a → a < 9 → k < 8 → s < 8
-      → cell sums a k s ≡ underSum counted ms a k s + cond (eqb a (closesTo (getD sides (k * 8 + s) 0))) (cameSum counted ms k s - leftSum counted ms k s) 0
+      → cell sums a k s ≡ underSum counted ms a k s + cond (eqb a (closesTo (getD sides (k * 8 + s) false))) (cameSum counted ms k s - leftSum counted ms k s) 0
 
-pub data State (counted sides : List ℕ) (ms : List Move) (sums : List ℕ) (closed : Bool) : Type 0 where
+pub data State (counted : List ℕ) (sides : List Bool) (ms : List Move) (sums : List ℕ) (closed : Bool) : Type 0 where
   still-open : closed ≡ false → anyCloses ms ≡ false → Open counted ms sums → State counted sides ms sums closed
   shut : closed ≡ true → anyCloses ms ≡ true → Shut counted sides ms sums → State counted sides ms sums closed
 
 -- ---- no move yet
 
-pub state-none : (counted sides sums : List ℕ) (closed : Bool) → closed ≡ false → ((a k s : ℕ) → a < 9 → k < 8 → s < 8 → cell sums a k s ≡ 0) → State counted sides [] sums closed
+pub state-none : (counted : List ℕ) (sides : List Bool) (sums : List ℕ) (closed : Bool) → closed ≡ false
+    → ((a k s : ℕ) → a < 9 → k < 8 → s < 8 → cell sums a k s ≡ 0) → State counted sides [] sums closed
 unfolding anyCloses
 state-none counted sides sums closed o none =
     still-open o refl
@@ -62,7 +63,7 @@ state-none counted sides sums closed o none =
       gone = λ a k s low high hk hs. omega (arith, none a k s high hk hs, sum-nil (λ m. goesTo a k s m + bringsTo a k s m));
     })
 
-pub none-open : (counted sides sums : List ℕ) (ms : List Move) (closed : Bool) → ms ≡ [] → State counted sides ms sums closed → closed ≡ false
+pub none-open : (counted : List ℕ) (sides : List Bool) (sums : List ℕ) (ms : List Move) (closed : Bool) → ms ≡ [] → State counted sides ms sums closed → closed ≡ false
 unfolding anyCloses
 none-open counted sides sums ms closed e (still-open o q f) = o
 none-open counted sides sums ms closed e (shut o q f) = absurd (true≢false (sym (ap anyCloses (sym e) ∙ q)))
@@ -106,13 +107,14 @@ open-next counted sums next ms m o f =
     }
 
 -- the close brings and takes nothing under a name
-shut-next : (counted sides sums : List ℕ) (ms : List Move) → length sums ≡ 576 → Open counted ms sums → Shut counted sides (ms ++ (Close ∷ [])) (sumsAfter counted sides sums Close)
+shut-next : (counted : List ℕ) (sides : List Bool) (sums : List ℕ) (ms : List Move) → length sums ≡ 576 → Open counted ms sums
+    → Shut counted sides (ms ++ (Close ∷ [])) (sumsAfter counted sides sums Close)
 shut-next counted sides sums ms long o =
     record {
       enough = λ k s hk hs. omega (arith, came-same k s, left-same k s, o .kept k s hk hs);
       none-held = emptied sums sides long;
       gone = λ a k s low high hk hs.
-          let to : Bool = eqb a (closesTo (getD sides (k * 8 + s) 0)) in
+          let to : Bool = eqb a (closesTo (getD sides (k * 8 + s) false)) in
           let was : cell sums held k s ≡ cameSum counted (ms ++ (Close ∷ [])) k s - leftSum counted (ms ++ (Close ∷ [])) k s =
           omega (arith, came-same k s, left-same k s, o .kept k s hk hs) in
           omega (arith, closed-to sums sides long a k s low high hk hs, o .gone a k s low high hk hs, under-last counted ms Close k s a, ap (λ (n : ℕ). cond to n 0) was);
@@ -124,7 +126,7 @@ shut-next counted sides sums ms long o =
     left-same : (k s : ℕ) → leftSum counted (ms ++ (Close ∷ [])) k s ≡ leftSum counted ms k s
     left-same k s = omega (arith, left-last counted ms Close k s, sum-none 8 (λ i. goesTo (1 + i) k s Close) (λ i h. refl))
 
-module _ (counted sides store sums : List ℕ) (ms : List Move) (long : length sums ≡ 576) (o : Open counted ms sums) (q : anyCloses ms ≡ false) where
+module _ (counted : List ℕ) (sides : List Bool) (store sums : List ℕ) (ms : List Move) (long : length sums ≡ 576) (o : Open counted ms sums) (q : anyCloses ms ≡ false) where
   abbrev next : Move → List ℕ
   next m = sumsAfter counted sides sums m
 
@@ -138,7 +140,7 @@ module _ (counted sides store sums : List ℕ) (ms : List Move) (long : length s
   by-move (Gone a k s n) f d t = before-close (Gone a k s n) refl f d t
   by-move Close f d t = shut refl (closes-last ms Close q) (shut-next counted sides sums ms long o)
 
-pub state-next : (counted sides store sums : List ℕ) (ms : List Move) (closed : Bool) (m : Move) → length sums ≡ 576 → closed ≡ false
+pub state-next : (counted : List ℕ) (sides : List Bool) (store sums : List ℕ) (ms : List Move) (closed : Bool) (m : Move) → length sums ≡ 576 → closed ≡ false
     → Fits widest m → Named m → isThere store sums m ≡ true
     → State counted sides ms sums closed → State counted sides (ms ++ (m ∷ [])) (sumsAfter counted sides sums m) (closes m)
 state-next counted sides store sums ms closed m long is-open f d t (still-open e q o) = by-move counted sides store sums ms long o q m f d t

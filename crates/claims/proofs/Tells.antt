@@ -16,7 +16,8 @@ use Rattle.layout.specs.declared.holds.Holds.the-variants.{SetUp, Posts}
 use Rattle.layout.specs.declared.holds.SetupPart.the-variants.{Materials, Stage}
 use Rattle.layout.specs.Outline.{mayPost}
 use Rattle.layout.specs.Posts.{postIn}
-use Rattle.plant.specs.Setup.{setupOf}
+use Rattle.plant.specs.Setup.{setupOf, SoundSetup}
+use Rattle.plant.specs.Stage.{withStage}
 use Rattle.layout.specs.declared.outline.Outline.{Outline}
 use Rattle.plant.specs.declared.setup.Setup.{Setup}
 use Rattle.layout.proofs.Each.{and-true}
@@ -26,8 +27,7 @@ use Rattle.post.proofs.moves.Laws.{move-fits}
 use Rattle.post.proofs.moves.Named.{Named, said-is, move-named}
 use Rattle.book.specs.Entry.{enters, handles, sumsAfter, closes}
 use Rattle.book.specs.Posts.{postOn, takenTo, singleOn}
-use Rattle.book.specs.Site.{SoundSetup, SoundYear, inYear, bookWith, freshBook}
-use Rattle.book.specs.Stage.{withStage}
+use Rattle.book.specs.Site.{SoundYear, inYear, bookWith, freshBook}
 use Rattle.book.specs.declared.site.Book.{Book}
 use Rattle.book.specs.declared.site.Year.{Year}
 use Rattle.book.proofs.block.Laws.{Done, set-up, described, posted, block-done, done-sound, SoundParts}
@@ -35,9 +35,9 @@ use Rattle.book.proofs.entry.Laws.{room-of}
 use Rattle.book.proofs.ledger.Laws.{cell-le}
 use Rattle.book.proofs.posts.Laws as posts
 use Rattle.book.proofs.posts.Laws.{Posted, post-step}
-use Rattle.book.proofs.setup.Laws as first
+use Rattle.plant.proofs.setup.Taken as first
 use Rattle.book.proofs.site.Laws.{sound-fresh}
-use Rattle.book.proofs.stage.Laws as stage
+use Rattle.plant.proofs.stage.Taken as stage
 use Rattle.claims.specs.Demand as demand
 use Rattle.claims.specs.Standing.{Call, post, block, answerTo, run, keep, accepted, Standing, nothing, withPosts, withBlock, stand, stood, standing}
 use Rattle.claims.specs.Standing.{substancesOf, numbersOf, countedIn, movesOf, sumOver}
@@ -59,7 +59,7 @@ pub record Tells (w : Standing) (b : Book) : Type 0 where
   pub entered : (s : ℕ) → s < 8 → inYear (b .setup) (b .year) s ≡ demand.entered w s
   pub handled : (s : ℕ) → s < 8 → getD (b .year .handled) s 0 ≡ demand.handled w s
   pub named : Each Named (movesOf w)
-  pub state : State (countedIn w) (b .setup .sides) (movesOf w) (b .year .sums) (b .year .closed)
+  pub state : State (countedIn w) (b .setup .«to_water») (movesOf w) (b .year .sums) (b .year .closed)
 
 -- the substances of the book are those that stand
 pub substances-are : (w : Standing) (b : Book) → Tells w b → b .setup .outline .substances ≡ substancesOf w
@@ -98,8 +98,8 @@ module _ (w : Standing) (u : Setup) (y : Year) (blocks : ℕ) (h : SoundSetup u)
         handled = λ s hs. omega (arith, g .weighed s hs, in-none s hs, nothing-in (handles (countedIn w) s));
         named = subst (Each Named) (sym no-moves) tt;
         state =
-            subst (λ (ms : List Move). State (countedIn w) (u .sides) ms (y .sums) (y .closed)) (sym no-moves)
-            (state-none (countedIn w) (u .sides) (y .sums) (y .closed) o
+            subst (λ (ms : List Move). State (countedIn w) (u .«to_water») ms (y .sums) (y .closed)) (sym no-moves)
+            (state-none (countedIn w) (u .«to_water») (y .sums) (y .closed) o
             (λ a k s ha hk hs. omega (arith, cell-le (y .sums) a k s ha hk, in-none s hs)));
       }
 
@@ -161,10 +161,10 @@ module _ (w : Standing) (b : Book) (z : Year) (s : List ℕ) (blocks : ℕ) (h :
         handled = λ i hi. omega (arith, step .handled i hi, h .handled i hi, sum-next (handles (countedIn w) i), ap (λ (l : List ℕ). handles l i m) counted-is);
         named = subst (Each Named) (sym moves-next) (each-last Named (movesOf w) m (h .named) is-named);
         state =
-            subst (λ (ms : List Move). State (countedIn w) (u .sides) ms (z .sums) (z .closed)) (sym moves-next)
-            (subst (λ (x : Year). State (countedIn w) (u .sides) (movesOf w ++ (m ∷ [])) (x .sums) (x .closed)) (sym (p .year))
-            (subst (λ (l : List ℕ). State (countedIn w) (u .sides) (movesOf w ++ (m ∷ [])) (sumsAfter l (u .sides) (y .sums) m) (closes m)) (sym counted-is)
-            (state-next (countedIn w) (u .sides) (y .store) (y .sums) (movesOf w) (y .closed) m (h .sound .year .sums-long) (p .admitted .is-open) (room .fits)
+            subst (λ (ms : List Move). State (countedIn w) (u .«to_water») ms (z .sums) (z .closed)) (sym moves-next)
+            (subst (λ (x : Year). State (countedIn w) (u .«to_water») (movesOf w ++ (m ∷ [])) (x .sums) (x .closed)) (sym (p .year))
+            (subst (λ (l : List ℕ). State (countedIn w) (u .«to_water») (movesOf w ++ (m ∷ [])) (sumsAfter l (u .«to_water») (y .sums) m) (closes m)) (sym counted-is)
+            (state-next (countedIn w) (u .«to_water») (y .store) (y .sums) (movesOf w) (y .closed) m (h .sound .year .sums-long) (p .admitted .is-open) (room .fits)
             is-named (p .there) (h .state))));
       }
 
@@ -210,7 +210,7 @@ module _ (w : Standing) (b : Book) (h : Tells w b) (none : b .year .posts ≡ 0)
   none-posted = no-length (w .posts) (sym (h .count) ∙ none)
 
   is-open : b .year .closed ≡ false
-  is-open = none-open (countedIn w) (b .setup .sides) (b .year .sums) (movesOf w) (b .year .closed) (ap (map (said (numbersOf w))) none-posted) (h .state)
+  is-open = none-open (countedIn w) (b .setup .«to_water») (b .year .sums) (movesOf w) (b .year .closed) (ap (map (said (numbersOf w))) none-posted) (h .state)
 
 -- the stages that stood before a kind 1 block
 no-stages : (w : Standing) (u : Setup) → u .outline .substances ≡ 0 → Setting w u → w .stages ≡ []

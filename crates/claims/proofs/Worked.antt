@@ -8,13 +8,12 @@ use Rattle.amounts.specs.Content.{countedOf}
 use Rattle.amounts.specs.Decline.{taken, declined, valueOr, short}
 use Rattle.layout.specs.Bytes.{le, padded, written, placed}
 use Rattle.layout.specs.Each.{sumTo, allTo, listTo, putTo}
-use Rattle.plant.specs.Stage.{ratesAt}
+use Rattle.plant.specs.Setup.{setUpOn}
+use Rattle.plant.specs.Stage.{secondOf, ratesAt, describedOn}
 use Rattle.post.specs.Fields.{postAt}
 use Rattle.post.specs.Moves.{measured}
 use Rattle.book.specs.Block.{blockOn}
 use Rattle.book.specs.Posts.{postsOn, singleOn}
-use Rattle.book.specs.Setup as described
-use Rattle.book.specs.Stage.{describedOn}
 use Rattle.book.specs.Site.{freshBook}
 use Rattle.book.specs.declared.site.Book.{Book}
 use Rattle.book.specs.Whole.{partsTo, partsIn, refused, readAll}
@@ -58,7 +57,7 @@ lent = replicate 1536 7
 -- ---- the premise met
 
 writer-takes-met : accepted (freshPage lent) met ≡ met
-unfolding met lent accepted page.setUpOn page.postOn placed written le sumTo allTo ratesAt postAt ieee.ofBits ieee.round ieee.le
+unfolding met lent accepted page.setUpOn page.postOn placed written le sumTo allTo secondOf ratesAt postAt ieee.ofBits ieee.round ieee.le
 writer-takes-met = refl
 
 -- the book that took them singly
@@ -67,7 +66,7 @@ unfolding allTaken singly met
 bookMet = valueOr freshBook (allTaken freshBook (singly 0 met))
 
 book-takes-met : allTaken freshBook (singly 0 met) ≡ taken bookMet
-unfolding bookMet blockOn singleOn describedOn described.setUpOn postsOn le sumTo allTo listTo putTo ratesAt countedOf postAt measured ieee.ofBits ieee.round ieee.le
+unfolding bookMet blockOn singleOn describedOn setUpOn postsOn le sumTo allTo listTo putTo secondOf ratesAt countedOf postAt measured ieee.ofBits ieee.round ieee.le
 book-takes-met = refl
 
 pub premise-met : TakesSingly lent met bookMet
@@ -75,22 +74,22 @@ premise-met = ap (λ (cs : List Call). allTaken freshBook (singly 0 cs)) writer-
 
 -- it has both posts
 pub both-posted : bookMet .year .posts ≡ 2
-unfolding bookMet blockOn singleOn describedOn described.setUpOn postsOn le sumTo allTo listTo putTo ratesAt countedOf postAt measured ieee.ofBits ieee.round ieee.le
+unfolding bookMet blockOn singleOn describedOn setUpOn postsOn le sumTo allTo listTo putTo secondOf ratesAt countedOf postAt measured ieee.ofBits ieee.round ieee.le
 both-posted = refl
 
 -- ---- the premise not met: a store can't give what it hasn't
 
 writer-takes-unmet : accepted (freshPage lent) unmet ≡ unmet
-unfolding unmet lent accepted page.setUpOn page.postOn placed written le sumTo allTo ratesAt postAt ieee.ofBits ieee.round ieee.le
+unfolding unmet lent accepted page.setUpOn page.postOn placed written le sumTo allTo secondOf ratesAt postAt ieee.ofBits ieee.round ieee.le
 writer-takes-unmet = refl
 
 book-declines-unmet : allTaken freshBook (singly 0 unmet) ≡ declined short
-unfolding unmet allTaken singly blockOn singleOn describedOn described.setUpOn postsOn le sumTo allTo listTo putTo ratesAt countedOf postAt measured ieee.ofBits ieee.round ieee.le
+unfolding unmet allTaken singly blockOn singleOn describedOn setUpOn postsOn le sumTo allTo listTo putTo secondOf ratesAt countedOf postAt measured ieee.ofBits ieee.round ieee.le
 book-declines-unmet = refl
 
 -- the third block is refused, as the post was
 journal-refused : readAll freshBook 0 (partsIn (joined (blocksOf (unmet ++ (end ∷ []))))) ≡ refused 2 short
-unfolding unmet joined blocksOf partsTo readAll blockOn singleOn describedOn described.setUpOn postsOn le sumTo allTo listTo putTo ratesAt countedOf postAt measured ieee.ofBits ieee.round ieee.le
+unfolding unmet joined blocksOf partsTo readAll blockOn singleOn describedOn setUpOn postsOn le sumTo allTo listTo putTo secondOf ratesAt countedOf postAt measured ieee.ofBits ieee.round ieee.le
 journal-refused = refl
 
 pub premise-needed : (allTaken freshBook (singly 0 (accepted (freshPage lent) unmet)) ≡ declined short) × (readAll freshBook 0 (partsIn (journalOf lent unmet)) ≡ refused 2 short)

@@ -2,7 +2,7 @@
 -- what the accepted set-up blocks say. All is read from bytes, and nothing from a book.
 use Prim.Native.Nat.{ℕ, _+_, _-_, _≤_, _<_}
 use mathlib.Core.Path.{_≡_}
-use mathlib.Core.Bool.{Bool, false, _&&_, _||_, cond}
+use mathlib.Core.Bool.{Bool, true, false, _&&_, _||_, cond}
 use mathlib.Core.List.{List, [], _∷_}
 use lib.Dec.{eqb, ltb}
 use lib.ListN.{length, getD, drop}
@@ -12,7 +12,7 @@ use Rattle.amounts.specs.Treatment.{partsOf}
 use Rattle.amounts.specs.declared.treatment.Parts.{Parts}
 use Rattle.layout.specs.Each.{sumTo}
 use Rattle.layout.specs.Frame.{countOf, bodyOf}
-use Rattle.plant.specs.Stage.{sideRow, rateRow}
+use Rattle.plant.specs.Stage.{sewered, landfilled, waterRow, rateRow}
 use Rattle.plant.specs.declared.setup.Rates.{Rates}
 use Rattle.post.specs.Account.{held, shipped, offSite, landfill, soil, consumed, gas, water, vapour}
 use Rattle.post.specs.declared.moves.Move.{Move}
@@ -20,7 +20,7 @@ use Rattle.post.specs.declared.moves.Move.the-variants.{Received, Issued, Broug
 use Rattle.book.specs.Entry.{closes}
 use Rattle.book.specs.Ledger.{brings}
 use Rattle.book.specs.Site.{freshBook}
-use Rattle.report.specs.Line.{atOne, atTwo}
+use Rattle.report.specs.Line.{toSewer, toPublicWater, toLandfill, toOffSite}
 use Rattle.report.specs.Report.{filingOf, reportOf}
 use Rattle.report.specs.declared.line.Line.{Line}
 use Rattle.report.specs.declared.report.Report.{Report}
@@ -37,14 +37,14 @@ abbrev pub stageOf : Standing → ℕ → List ℕ
 stageOf w stage = stageIn stage (w .stages)
 
 -- "8: 1 public water, 2 sewer. 9: residues 1 off site, 2 landfill. From 10, 17 bytes per substance"
-abbrev pub waterTo : Standing → ℕ → ℕ
-waterTo w stage = getD (stageOf w stage) 0 0
+abbrev pub seweredAt : Standing → ℕ → Bool
+seweredAt w stage = sewered (stageOf w stage)
 
-abbrev pub residueTo : Standing → ℕ → ℕ
-residueTo w stage = getD (stageOf w stage) 1 0
+abbrev pub landfilledAt : Standing → ℕ → Bool
+landfilledAt w stage = landfilled (stageOf w stage)
 
-abbrev pub sideFor : Standing → ℕ → ℕ → ℕ
-sideFor w stage s = sideRow (drop 2 (stageOf w stage)) s
+abbrev pub waterFor : Standing → ℕ → ℕ → Bool
+waterFor w stage s = waterRow (drop 2 (stageOf w stage)) s
 
 abbrev pub ratesFor : Standing → ℕ → ℕ → Rates
 ratesFor w stage s = rateRow (drop 2 (stageOf w stage)) s
@@ -160,18 +160,20 @@ beforeClose w n = cond (isClosed w) 0 n
 abbrev pub heldAt : Standing → ℕ → ℕ → ℕ
 heldAt w s stage = beforeClose w (remains w s stage)
 
--- "Each holding moves to gas or waste water, by that pair's side": 2 is water, and any other side, which is 1, is gas
-abbrev pub toGas : ℕ → ℕ → ℕ
-toGas side n = cond (eqb side 2) 0 n
+-- "Each holding moves to gas or waste water, by that pair's side", which is water or is not
+abbrev pub toWater : Bool → ℕ → ℕ
+toWater true n = n
+toWater false n = 0
 
-abbrev pub toWater : ℕ → ℕ → ℕ
-toWater side n = cond (eqb side 2) n 0
+abbrev pub toGas : Bool → ℕ → ℕ
+toGas true n = 0
+toGas false n = n
 
 abbrev pub gasTotal : Standing → ℕ → ℕ → ℕ
-gasTotal w s stage = under gas w s stage + atClose w (toGas (sideFor w stage s) (remains w s stage))
+gasTotal w s stage = under gas w s stage + atClose w (toGas (waterFor w stage s) (remains w s stage))
 
 abbrev pub waterTotal : Standing → ℕ → ℕ → ℕ
-waterTotal w s stage = under water w s stage + atClose w (toWater (sideFor w stage s) (remains w s stage))
+waterTotal w s stage = under water w s stage + atClose w (toWater (waterFor w stage s) (remains w s stage))
 
 -- ---- treatment: "With a the gas total, r removal and d destruction", and "Waste water alike, with its own rates"
 
@@ -202,11 +204,11 @@ lineOf w s =
       headings =
           record {
             air = sumTo 8 (λ k. gasSplit w s k .released + under vapour w s k);
-            water = sumTo 8 (λ k. atOne (waterTo w k) (waterSplit w s k .released));
+            water = sumTo 8 (λ k. toPublicWater (seweredAt w k) (waterSplit w s k .released));
             soil = sumTo 8 (λ k. under soil w s k);
-            land = sumTo 8 (λ k. under landfill w s k + atTwo (residueTo w k) (residue w s k));
-            sewer = sumTo 8 (λ k. atTwo (waterTo w k) (waterSplit w s k .released));
-            offsite = sumTo 8 (λ k. under offSite w s k + atOne (residueTo w k) (residue w s k));
+            land = sumTo 8 (λ k. under landfill w s k + toLandfill (landfilledAt w k) (residue w s k));
+            sewer = sumTo 8 (λ k. toSewer (seweredAt w k) (waterSplit w s k .released));
+            offsite = sumTo 8 (λ k. under offSite w s k + toOffSite (landfilledAt w k) (residue w s k));
           };
     }
 

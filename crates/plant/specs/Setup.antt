@@ -1,18 +1,21 @@
 -- Kind 1: the substances and the materials (document 01, "Journal blocks"). The body is the block's bytes 8 to 507.
-use Prim.Native.Nat.{ℕ, zero, suc, _+_, _*_, _%_}
-use mathlib.Core.Bool.{Bool, _&&_}
+use Prim.Native.Nat.{ℕ, zero, suc, _+_, _*_, _%_, _≤_}
+use mathlib.Core.Path.{_≡_}
+use mathlib.Core.Bool.{Bool, false, _&&_}
 use mathlib.Core.List.{List, [], _∷_}
 use lib.Dec.{eqb, leb, ltb}
 use lib.ListN.{length, getD, drop, replicate}
 use Rattle.amounts.specs.Class.{isClass}
 use Rattle.amounts.specs.Content.{countedOf}
-use Rattle.amounts.specs.Decline.{Check, check, valueOr, outOfTurn, layout}
+use Rattle.amounts.specs.Decline.{Answer, taken, declined, Check, check, checked, valueOr, outOfTurn, layout}
 use Rattle.layout.specs.Bytes.{le, les, part, within, allZero}
 use Rattle.layout.specs.Each.{sumTo, allTo, listTo}
-use Rattle.layout.specs.Outline.{maySetUp}
+use Rattle.layout.specs.Outline.{freshOutline, maySetUp}
 use Rattle.layout.specs.declared.outline.Outline.{Outline}
+use Rattle.layout.specs.declared.verdict.Verdict.the-variants.{Accepted, Declined}
 use Rattle.plant.specs.declared.setup.Rates.{Rates}
 use Rattle.plant.specs.declared.setup.Setup.{Setup}
+use Rattle.plant.specs.declared.setup.SetupEnd.{SetupEnd}
 
 -- "8: materials, 1–12. 9: stages, 1–8."
 abbrev pub materialsIn : List ℕ → ℕ
@@ -89,6 +92,20 @@ countedAll classes contents = listTo 96 (λ i. valueOr 0 (countedOf (getD classe
 abbrev pub noRates : Rates
 noRates = record { «gas_removal» = 0; «gas_destruction» = 0; «water_removal» = 0; «water_destruction» = 0 }
 
+-- before any block
+abbrev pub freshSetup : Setup
+freshSetup =
+    record {
+      outline = freshOutline;
+      numbers = replicate 8 0;
+      classes = replicate 8 0;
+      counted = replicate 96 0;
+      «to_sewer» = replicate 8 false;
+      «to_landfill» = replicate 8 false;
+      «to_water» = replicate 64 false;
+      rates = replicate 64 noRates;
+    }
+
 abbrev pub outlineOf : ℕ → List ℕ → Outline
 outlineOf count body = record { substances = count; materials = materialsIn body; stages = stagesIn body; described = 0 }
 
@@ -99,8 +116,41 @@ setupOf count body =
       numbers = numbersIn body;
       classes = classesIn body;
       counted = countedAll (classesIn body) (contentsIn body);
-      «water_to» = replicate 8 0;
-      «residue_to» = replicate 8 0;
-      sides = replicate 64 0;
+      «to_sewer» = replicate 8 false;
+      «to_landfill» = replicate 8 false;
+      «to_water» = replicate 64 false;
       rates = replicate 64 noRates;
     }
+
+-- kind 1 on a set-up: the body's set-up in place of none
+unfoldable pub setUpOn : Setup → ℕ → List ℕ → Answer Setup
+unfolding checked
+setUpOn u count body = checked (setupChecks (u .outline) count body) (setupOf count body)
+
+-- "A decline returns its number and the book given in": what the code returns for an answer to a set-up block
+abbrev pub setupEnd : Setup → Answer Setup → SetupEnd
+setupEnd given (taken u) = record { verdict = Accepted; setup = u }
+setupEnd given (declined n) = record { verdict = Declined (record { number = n }); setup = given }
+
+-- ---- what is true of every set-up of a book
+
+-- "to 1,000,000"
+pub record Rated (r : Rates) : Type 0 where
+  pub gas-removal : r .«gas_removal» ≤ 1000000
+  pub gas-destruction : r .«gas_destruction» ≤ 1000000
+  pub water-removal : r .«water_removal» ≤ 1000000
+  pub water-destruction : r .«water_destruction» ≤ 1000000
+
+pub record SoundSetup (u : Setup) : Type 0 where
+  pub substances-few : u .outline .substances ≤ 8
+  pub materials-few : u .outline .materials ≤ 12
+  pub stages-few : u .outline .stages ≤ 8
+  pub described-few : u .outline .described ≤ u .outline .stages
+  -- a book has stages once it has substances
+  pub stages-later : u .outline .substances ≡ 0 → u .outline .stages ≡ 0
+  pub counted-small : (i : ℕ) → getD (u .counted) i 0 ≤ 1000000
+  pub rated : (pair : ℕ) → Rated (getD (u .rates) pair noRates)
+  pub rates-long : length (u .rates) ≡ 64
+  pub sides-long : length (u .«to_water») ≡ 64
+  pub sewer-long : length (u .«to_sewer») ≡ 8
+  pub landfill-long : length (u .«to_landfill») ≡ 8

@@ -1,9 +1,9 @@
-// Kind 1: what a body says of the substances and the materials, and its limits.
+// Kind 1: what a body says of the substances and the materials, its limits, and the set-up that it makes.
 ghost use mathlib.Core.Path.{_≡_};
 ghost use Rattle.amounts.specs.Content.{countedOf};
 ghost use Rattle.amounts.specs.Decline.{checked, valueOr};
 ghost use Rattle.layout.specs.Verdict.{verdictOf};
-ghost use Rattle.plant.specs.Setup.{numbersIn, classesIn, contentsIn, countedAll, outlineOf, setupOf};
+ghost use Rattle.plant.specs.Setup.{numbersIn, classesIn, contentsIn, countedAll, outlineOf, freshSetup, setupOf, setUpOn, setupEnd};
 ghost use Rattle.plant.specs.Setup.{rising, allClasses, rowSum, rowFits, rowsFit, materialChecks, substanceChecks, bodyChecks, setupChecks};
 use amounts::class;
 use amounts::content;
@@ -23,17 +23,24 @@ pub struct Rates {
     pub water_destruction: u32,
 }
 
-// What the set-up blocks say. Contents are kept as counted: for the material m and the substance s at m * 8 + s. A pair's side
-// and rates stand at stage * 8 + substance, and are 0 where the stage isn't described yet.
+// What the set-up blocks say. Contents are kept as counted: for the material m and the substance s at m * 8 + s. A pair's side, water
+// or gas, and its rates stand at stage * 8 + substance. A stage's treated water goes to the sewer or to public water, its residues to
+// landfill or off site. Of a stage that isn't described yet the flags are false and the rates 0.
 pub struct Setup {
     pub outline: Outline,
     pub numbers: [u16; 8],
     pub classes: [u8; 8],
     pub counted: [u32; 96],
-    pub water_to: [u8; 8],
-    pub residue_to: [u8; 8],
-    pub sides: [u8; 64],
+    pub to_sewer: [bool; 8],
+    pub to_landfill: [bool; 8],
+    pub to_water: [bool; 64],
     pub rates: [Rates; 64],
+}
+
+// What a set-up block answers, with the set-up after it where it is accepted, and else the one given in.
+pub struct SetupEnd {
+    pub verdict: Verdict,
+    pub setup: Setup,
 }
 
 pub const NO_RATES: Rates = Rates {
@@ -42,6 +49,27 @@ pub const NO_RATES: Rates = Rates {
     water_removal: 0,
     water_destruction: 0,
 };
+
+// The set-up before any block.
+pub fn fresh_setup() -> Setup
+    ensures { λ r. ⌜ r ≡ freshSetup ⌝ }
+{
+    Setup {
+        outline: Outline {
+            substances: 0,
+            materials: 0,
+            stages: 0,
+            described: 0,
+        },
+        numbers: [0; 8],
+        classes: [0; 8],
+        counted: [0; 96],
+        to_sewer: [false; 8],
+        to_landfill: [false; 8],
+        to_water: [false; 64],
+        rates: [NO_RATES; 64],
+    }
+}
 
 fn numbers_in(body: &[u8]) -> [u16; 8]
     ensures { λ r. ⌜ r ≡ numbersIn (now (body .entry)) ⌝ }
@@ -262,9 +290,24 @@ pub fn parse(count: u8, body: &[u8]) -> Setup
         numbers,
         classes,
         counted,
-        water_to: [0; 8],
-        residue_to: [0; 8],
-        sides: [0; 64],
+        to_sewer: [false; 8],
+        to_landfill: [false; 8],
+        to_water: [false; 64],
         rates: [NO_RATES; 64],
+    }
+}
+
+// The set-up with the substances and materials of a kind 1 block.
+pub fn set_up(u: Setup, count: u8, body: &[u8]) -> SetupEnd
+    ensures { λ r. ⌜ r ≡ setupEnd u (setUpOn u count (now (body .entry))) ⌝ }
+{
+    let o = u.outline;
+    let verdict = check_setup(o, count, body);
+    if let Verdict::Declined(_) = verdict {
+        return SetupEnd { verdict, setup: u };
+    }
+    SetupEnd {
+        verdict: Verdict::Accepted,
+        setup: parse(count, body),
     }
 }

@@ -1,8 +1,7 @@
 -- What a report shows of a substance but the store (document 01, "Treatment and report").
 use Prim.Native.Nat.{ℕ, _+_, _*_}
-use mathlib.Core.Bool.{cond}
+use mathlib.Core.Bool.{Bool, true, false}
 use mathlib.Core.List.{List}
-use lib.Dec.{eqb}
 use lib.ListN.{getD}
 use Rattle.amounts.specs.Treatment.{partsOf}
 use Rattle.amounts.specs.declared.treatment.Parts.{Parts}
@@ -16,12 +15,23 @@ use Rattle.report.specs.declared.line.Cells.{Cells}
 use Rattle.report.specs.declared.line.Headings.{Headings}
 use Rattle.report.specs.declared.line.Line.{Line}
 
--- an amount by where it goes: a destination that isn't the first is the second
-abbrev pub atOne : ℕ → ℕ → ℕ
-atOne destination n = cond (eqb destination 1) n 0
+-- "Treated water goes to public water or sewer": an amount of it, by whether the stage's goes to the sewer
+abbrev pub toSewer : Bool → ℕ → ℕ
+toSewer true n = n
+toSewer false n = 0
 
-abbrev pub atTwo : ℕ → ℕ → ℕ
-atTwo destination n = cond (eqb destination 1) 0 n
+abbrev pub toPublicWater : Bool → ℕ → ℕ
+toPublicWater true n = 0
+toPublicWater false n = n
+
+-- "residues to off site or landfill": by whether the stage's go to landfill
+abbrev pub toLandfill : Bool → ℕ → ℕ
+toLandfill true n = n
+toLandfill false n = 0
+
+abbrev pub toOffSite : Bool → ℕ → ℕ
+toOffSite true n = 0
+toOffSite false n = n
 
 -- the rates of a stage and a substance
 abbrev pub ratesOf : Setup → ℕ → ℕ → Rates
@@ -43,9 +53,9 @@ cellsOf sums stage s =
     }
 
 -- Of a stage, with its gas and its waste water as split: "air (gas released and vapour), public water, soil, landfill, sewer, off site. Treated water goes to
--- public water or sewer, residues to off site or landfill, as the stage says": 1 public water, 2 sewer; 1 off site, 2 landfill.
-abbrev pub lineFrom : Cells → Parts → Parts → ℕ → ℕ → Line
-lineFrom c g w waterTo residueTo =
+-- public water or sewer, residues to off site or landfill, as the stage says."
+abbrev pub lineFrom : Cells → Parts → Parts → Bool → Bool → Line
+lineFrom c g w sewer landfill =
     record {
       held = c .held;
       shipped = c .shipped;
@@ -54,21 +64,21 @@ lineFrom c g w waterTo residueTo =
       headings =
           record {
             air = g .released + c .vapour;
-            water = atOne waterTo (w .released);
+            water = toPublicWater sewer (w .released);
             soil = c .soil;
-            land = c .landfill + atTwo residueTo (g .residue + w .residue);
-            sewer = atTwo waterTo (w .released);
-            offsite = c .«off_site» + atOne residueTo (g .residue + w .residue);
+            land = c .landfill + toLandfill landfill (g .residue + w .residue);
+            sewer = toSewer sewer (w .released);
+            offsite = c .«off_site» + toOffSite landfill (g .residue + w .residue);
           };
     }
 
 -- the split of the gas and of the waste water, each by its own rates: "made on the year's totals, at the report"
-abbrev pub lineFor : Cells → Rates → ℕ → ℕ → Line
-lineFor c r waterTo residueTo =
-    lineFrom c (partsOf (c .gas) (r .«gas_removal») (r .«gas_destruction»)) (partsOf (c .water) (r .«water_removal») (r .«water_destruction»)) waterTo residueTo
+abbrev pub lineFor : Cells → Rates → Bool → Bool → Line
+lineFor c r sewer landfill =
+    lineFrom c (partsOf (c .gas) (r .«gas_removal») (r .«gas_destruction»)) (partsOf (c .water) (r .«water_removal») (r .«water_destruction»)) sewer landfill
 
 abbrev pub stageLine : List ℕ → Setup → ℕ → ℕ → Line
-stageLine sums u s stage = lineFor (cellsOf sums stage s) (ratesOf u stage s) (getD (u .«water_to») stage 0) (getD (u .«residue_to») stage 0)
+stageLine sums u s stage = lineFor (cellsOf sums stage s) (ratesOf u stage s) (getD (u .«to_sewer») stage false) (getD (u .«to_landfill») stage false)
 
 -- "Per substance, over all stages": here over the first n
 unfoldable pub lineTo : List ℕ → Setup → ℕ → ℕ → Line

@@ -3,8 +3,8 @@ ghost use mathlib.Core.Path.{_≡_};
 ghost use Prim.Native.Nat.{_+_, _^_, _≤_, _<_};
 ghost use Rattle.amounts.specs.Treatment.{partsOf};
 ghost use Rattle.book.specs.Ledger.{total};
-ghost use Rattle.book.specs.Site.{Rated, SoundSetup};
-ghost use Rattle.report.specs.Line.{atOne, atTwo, ratesOf, cellsOf, lineFrom, stageLine, lineTo, sixOf, weigh};
+ghost use Rattle.plant.specs.Setup.{Rated, SoundSetup};
+ghost use Rattle.report.specs.Line.{toSewer, toPublicWater, toLandfill, toOffSite, ratesOf, cellsOf, lineFrom, stageLine, lineTo, sixOf, weigh};
 ghost use Rattle.report.specs.Steps.{addHeadings, addLines};
 use amounts::treatment;
 use amounts::treatment::Parts;
@@ -75,30 +75,42 @@ fn parts_of(total: u64, removal: u32, destruction: u32) -> Parts
     }
 }
 
-fn at_one(destination: u8, n: u64) -> u64
-    ensures { λ r. ⌜ r ≡ atOne destination n ⌝ }
+fn to_sewer(sewer: bool, n: u64) -> u64
+    ensures { λ r. ⌜ r ≡ toSewer sewer n ⌝ }
 {
-    if destination == 1 { n } else { 0 }
+    if sewer { n } else { 0 }
 }
 
-fn at_two(destination: u8, n: u64) -> u64
-    ensures { λ r. ⌜ r ≡ atTwo destination n ⌝ }
+fn to_public_water(sewer: bool, n: u64) -> u64
+    ensures { λ r. ⌜ r ≡ toPublicWater sewer n ⌝ }
 {
-    if destination == 1 { 0 } else { n }
+    if sewer { 0 } else { n }
+}
+
+fn to_landfill(landfill: bool, n: u64) -> u64
+    ensures { λ r. ⌜ r ≡ toLandfill landfill n ⌝ }
+{
+    if landfill { n } else { 0 }
+}
+
+fn to_off_site(landfill: bool, n: u64) -> u64
+    ensures { λ r. ⌜ r ≡ toOffSite landfill n ⌝ }
+{
+    if landfill { 0 } else { n }
 }
 
 // A stage's line, with its gas and its waste water as split.
-fn line_from(c: Cells, gas: Parts, water: Parts, water_to: u8, residue_to: u8) -> Line
-    requires { ⌜ weigh (lineFrom c gas water «water_to» «residue_to») < 2 ^ 64 ⌝ }
-    ensures { λ r. ⌜ r ≡ lineFrom c gas water «water_to» «residue_to» ⌝ }
+fn line_from(c: Cells, gas: Parts, water: Parts, sewered: bool, landfilled: bool) -> Line
+    requires { ⌜ weigh (lineFrom c gas water sewered landfilled) < 2 ^ 64 ⌝ }
+    ensures { λ r. ⌜ r ≡ lineFrom c gas water sewered landfilled ⌝ }
 {
     let residue = gas.residue + water.residue;
     let destroyed = gas.destroyed + water.destroyed;
     let air = gas.released + c.vapour;
-    let clean = at_one(water_to, water.released);
-    let sewer = at_two(water_to, water.released);
-    let offsite = c.off_site + at_one(residue_to, residue);
-    let land = c.landfill + at_two(residue_to, residue);
+    let clean = to_public_water(sewered, water.released);
+    let sewer = to_sewer(sewered, water.released);
+    let offsite = c.off_site + to_off_site(landfilled, residue);
+    let land = c.landfill + to_landfill(landfilled, residue);
     Line {
         held: c.held,
         shipped: c.shipped,
@@ -129,8 +141,8 @@ fn stage_line(sums: &[u64; 576], setup: Setup, s: usize, stage: usize) -> Line
         c,
         gas,
         water,
-        setup.water_to[stage],
-        setup.residue_to[stage],
+        setup.to_sewer[stage],
+        setup.to_landfill[stage],
     )
 }
 

@@ -1,31 +1,25 @@
 -- What a call on a book returns, and what its verdict tells of its answer. Assumes nothing.
 use mathlib.Core.Path.{_≡_, refl, sym, ap, _∙_}
-use mathlib.Core.List.{List}
 use Prim.Native.Nat.{ℕ}
 use native.Mathlib.Omega.{arith}
-use Rattle.amounts.specs.Decline.{Answer, Check, taken, declined, checked}
+use Rattle.amounts.specs.Decline.{Answer, taken, declined}
 use Rattle.amounts.specs.declared.decline.Decline.{Decline}
-use Rattle.layout.specs.Verdict.{verdictOf}
-use Rattle.layout.specs.declared.verdict.Verdict.{Verdict}
 use Rattle.layout.specs.declared.verdict.Verdict.the-variants.{Accepted, Declined}
-use Rattle.layout.proofs.verdict.Laws.{accepts, declines}
 use Rattle.book.specs.Answer.{outcome}
 use Rattle.book.specs.Site.{Sound}
 use Rattle.book.specs.Steps.{guarded}
+use Rattle.plant.specs.Setup.{setupEnd}
+use Rattle.plant.specs.declared.setup.Setup.{Setup}
+use Rattle.plant.specs.declared.setup.SetupEnd.{SetupEnd}
 use Rattle.book.specs.declared.answer.Answered.{Answered}
 use Rattle.book.specs.declared.site.Book.{Book}
 
--- ---- a value by its verdict
+-- ---- a set-up block
 
-module _ {A : Type 0} (rows : List Check) (v : Verdict) (a : A) (told : v ≡ verdictOf (checked rows (tt {0}))) where
-  pub guard-declined : (d : Decline) (b : A) → v ≡ Declined d → guarded v b ≡ checked rows a
-  guard-declined d b e = ap (λ (x : Verdict). guarded x b) e ∙ sym (declines (tt {0}) a rows d (sym e ∙ told))
-
-  pub table-declined : (d : Decline) → v ≡ Declined d → checked rows a ≡ declined (d .number)
-  table-declined d e = declines (tt {0}) a rows d (sym e ∙ told)
-
-  pub table-accepted : v ≡ Accepted → checked rows a ≡ taken a
-  table-accepted e = accepts (tt {0}) a rows (sym e ∙ told)
+-- what it returns tells its answer
+pub end-guarded : (u : Setup) (a : Answer Setup) (r : SetupEnd) → r ≡ setupEnd u a → guarded (r .verdict) (r .setup) ≡ a
+end-guarded u (taken v) r e = rw e
+end-guarded u (declined n) r e = rw e
 
 -- ---- a call
 

@@ -21,7 +21,8 @@ use Rattle.post.specs.declared.moves.Move.the-variants.{Received, Issued, Broug
 use Rattle.book.specs.Entry.{isThere, storeAfter, sumsAfter, handledAfter, closes, yearAfter, enters, handles}
 use Rattle.book.specs.Ledger.{cellOf, cell, total, added, brings}
 use Rattle.book.specs.Posts.{hasRoom}
-use Rattle.book.specs.Site.{SoundSetup, SoundYear, storedTo, inYear}
+use Rattle.book.specs.Site.{SoundYear, storedTo, inYear}
+use Rattle.plant.specs.Setup.{SoundSetup}
 use Rattle.book.specs.Steps.{widest, Room, Entered}
 use Rattle.book.specs.declared.site.Year.{Year}
 use Rattle.book.proofs.ledger.Laws.{total-set, total-other, cell-le, length-moved, total-moved, grown-le, length-settled, total-settled, length-raised, handled-raised, total-raised}
@@ -70,7 +71,7 @@ module _ (counted store sums handled : List ℕ) where
 
 -- ---- a move entered, by its case
 
-module _ (counted sides store sums handled store' sums' handled' : List ℕ) (m x : Move) (e : m ≡ x) where
+module _ (counted : List ℕ) (sides : List Bool) (store sums handled store' sums' handled' : List ℕ) (m x : Move) (e : m ≡ x) where
   pub left-out : isThere store sums x ≡ false → Entered counted sides store sums handled m store' sums' handled' false
   left-out h =
       record {
@@ -180,9 +181,9 @@ pub record Step (u : Setup) (y : Year) (m : Move) (z : Year) : Type 0 where
 -- the lists that a move leaves, by what it brings in and what it has handled
 record Leaves (u : Setup) (y : Year) (m : Move) : Type 0 where
   store-long : length (storeAfter (y .store) m) ≡ 12
-  sums-long : length (sumsAfter (u .counted) (u .sides) (y .sums) m) ≡ 576
+  sums-long : length (sumsAfter (u .counted) (u .«to_water») (y .sums) m) ≡ 576
   handled-long : length (handledAfter (u .counted) (y .handled) m) ≡ 8
-  totals : (s : ℕ) → s < 8 → total (sumsAfter (u .counted) (u .sides) (y .sums) m) s ≡ total (y .sums) s + handles (u .counted) s m
+  totals : (s : ℕ) → s < 8 → total (sumsAfter (u .counted) (u .«to_water») (y .sums) m) s ≡ total (y .sums) s + handles (u .counted) s m
   counts : (s : ℕ) → s < 8 → getD (handledAfter (u .counted) (y .handled) m) s 0 ≡ getD (y .handled) s 0 + handles (u .counted) s m
   stored : (s : ℕ) → s < 8 → storedTo (storeAfter (y .store) m) (u .counted) s 12 + handles (u .counted) s m ≡ storedTo (y .store) (u .counted) s 12 + enters (u .counted) s m
   few : (s : ℕ) → s < 8 → enters (u .counted) s m ≤ 2 * 10 ^ 15
@@ -256,9 +257,9 @@ module _ (u : Setup) (y : Year) (h : SoundYear u y) where
   leaves Close r q =
       record {
         store-long = h .store-long;
-        sums-long = length-settled (y .sums) (u .sides) 64 ∙ h .sums-long;
+        sums-long = length-settled (y .sums) (u .«to_water») 64 ∙ h .sums-long;
         handled-long = h .handled-long;
-        totals = λ s hs. omega (arith, total-settled (y .sums) (u .sides) 64 s (omega arith) hs (h .sums-long));
+        totals = λ s hs. omega (arith, total-settled (y .sums) (u .«to_water») 64 s (omega arith) hs (h .sums-long));
         counts = λ s hs. omega arith;
         stored = λ s hs. omega arith;
         few = λ s hs. omega arith;

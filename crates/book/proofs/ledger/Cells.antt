@@ -94,13 +94,10 @@ module _ (amount : ℕ → ℕ) (l : List ℕ) (stage : ℕ) (hst : stage < 8) w
 -- ---- the close
 
 -- no pair closes to its holding
-closes-above : (side : ℕ) → 1 ≤ closesTo side
+closes-above : (toWater : Bool) → 1 ≤ closesTo toWater
 unfolding closesTo
-closes-above side = go (eqb side 2)
-  where
-    go : (t : Bool) → 1 ≤ cond t water gas
-    go true = omega arith
-    go false = omega arith
+closes-above true = omega arith
+closes-above false = omega arith
 
 module _ (m : List ℕ) (to k : ℕ) (hk : k < 64) (some : 1 ≤ to) (few : to < 9) (long : length m ≡ 576) where
   abbrev n : ℕ
@@ -122,7 +119,7 @@ module _ (m : List ℕ) (to k : ℕ) (hk : k < 64) (some : 1 ≤ to) (few : to <
       go (yes e) = rw (eq-eqb account to e, e) (moved-into m (at held k) (at to k) n (λ f. omega arith) (omega arith))
       go (no d) = rw (ne-eqb account to d) (omega (arith, moved-other m (at held k) (at to k) n (at account k) (λ e. omega arith) (λ e. d (omega arith))))
 
-module _ (l sides : List ℕ) (long : length l ≡ 576) where
+module _ (l : List ℕ) (sides : List Bool) (long : length l ≡ 576) where
   stays : (i : ℕ) → length (settled l sides i) ≡ 576
   stays i = length-settled l sides i ∙ long
 
@@ -131,8 +128,8 @@ module _ (l sides : List ℕ) (long : length l ≡ 576) where
   unfolding settled
   settled-later zero j account h hj ha = refl
   settled-later (suc k) j account h hj ha =
-      let to = closesTo (getD sides k 0) in
-      moved-elsewhere (settled l sides k) to k (omega arith) (closes-above (getD sides k 0)) (closes-below (getD sides k 0)) (stays k) account j hj (λ e. omega arith)
+      let to = closesTo (getD sides k false) in
+      moved-elsewhere (settled l sides k) to k (omega arith) (closes-above (getD sides k false)) (closes-below (getD sides k false)) (stays k) account j hj (λ e. omega arith)
       ∙ settled-later k j account (omega arith) hj ha
 
   -- a closed pair holds nothing
@@ -141,8 +138,8 @@ module _ (l sides : List ℕ) (long : length l ≡ 576) where
   settled-held zero j hi h = absurd (omega arith)
   settled-held (suc k) j hi h = go (ℕ-discrete j k) (settled-held k j)
     where
-      side : ℕ
-      side = getD sides k 0
+      side : Bool
+      side = getD sides k false
 
       go : Dec (j ≡ k) → (k ≤ 64 → j < k → getD (settled l sides k) (at held j) 0 ≡ 0)
           → getD (moved (settled l sides k) (at held k) (at (closesTo side) k) (getD (settled l sides k) (at held k) 0)) (at held j) 0 ≡ 0
@@ -153,7 +150,7 @@ module _ (l sides : List ℕ) (long : length l ≡ 576) where
 
   -- and its holding is in gas or waste water, by its side
   settled-at : (i j account : ℕ) → i ≤ 64 → j < i → 1 ≤ account → account < 9
-      → getD (settled l sides i) (at account j) 0 ≡ getD l (at account j) 0 + cond (eqb account (closesTo (getD sides j 0))) (getD l (at held j) 0) 0
+      → getD (settled l sides i) (at account j) 0 ≡ getD l (at account j) 0 + cond (eqb account (closesTo (getD sides j false))) (getD l (at held j) 0) 0
   unfolding settled
   settled-at zero j account hi h some few = absurd (omega arith)
   settled-at (suc k) j account hi h some few = go (ℕ-discrete j k) (settled-at k j account)
@@ -161,13 +158,14 @@ module _ (l sides : List ℕ) (long : length l ≡ 576) where
       m : List ℕ
       m = settled l sides k
 
-      side : ℕ
-      side = getD sides k 0
+      side : Bool
+      side = getD sides k false
 
       go : Dec (j ≡ k)
-          → (k ≤ 64 → j < k → 1 ≤ account → account < 9 → getD m (at account j) 0 ≡ getD l (at account j) 0 + cond (eqb account (closesTo (getD sides j 0))) (getD l (at held j) 0) 0)
+          → (k ≤ 64 → j < k → 1 ≤ account → account < 9
+          → getD m (at account j) 0 ≡ getD l (at account j) 0 + cond (eqb account (closesTo (getD sides j false))) (getD l (at held j) 0) 0)
           → getD (moved m (at held k) (at (closesTo side) k) (getD m (at held k) 0)) (at account j) 0
-          ≡ getD l (at account j) 0 + cond (eqb account (closesTo (getD sides j 0))) (getD l (at held j) 0) 0
+          ≡ getD l (at account j) 0 + cond (eqb account (closesTo (getD sides j false))) (getD l (at held j) 0) 0
       go (yes e) before =
           rw e
           (moved-at m (closesTo side) k (omega arith) (closes-above side) (closes-below side) (stays k) account some
@@ -181,5 +179,5 @@ module _ (l sides : List ℕ) (long : length l ≡ 576) where
   emptied k s hk hs = settled-held 64 (k * 8 + s) (omega arith) (omega arith)
 
   pub closed-to : (account k s : ℕ) → 1 ≤ account → account < 9 → k < 8 → s < 8
-      → cell (settled l sides 64) account k s ≡ cell l account k s + cond (eqb account (closesTo (getD sides (k * 8 + s) 0))) (cell l held k s) 0
+      → cell (settled l sides 64) account k s ≡ cell l account k s + cond (eqb account (closesTo (getD sides (k * 8 + s) false))) (cell l held k s) 0
   closed-to account k s low high hk hs = settled-at 64 (k * 8 + s) account (omega arith) (omega arith) low high

@@ -104,21 +104,18 @@ module _ (l : List ℕ) (account pair n : ℕ) (ha : account < 9) (hp : pair < 6
 
 -- ---- the close
 
-pub closes-below : (side : ℕ) → closesTo side < 9
+pub closes-below : (toWater : Bool) → closesTo toWater < 9
 unfolding closesTo
-closes-below side = go (eqb side 2)
-  where
-    go : (t : Bool) → cond t water gas < 9
-    go true = omega arith
-    go false = omega arith
+closes-below true = omega arith
+closes-below false = omega arith
 
-module _ (l sides : List ℕ) where
-  settled-again : (k : ℕ) → settled l sides (k + 1) ≡ moved (settled l sides k) (at held k) (at (closesTo (getD sides k 0)) k) (getD (settled l sides k) (at held k) 0)
+module _ (l : List ℕ) (sides : List Bool) where
+  settled-again : (k : ℕ) → settled l sides (k + 1) ≡ moved (settled l sides k) (at held k) (at (closesTo (getD sides k false)) k) (getD (settled l sides k) (at held k) 0)
   unfolding settled
   settled-again k = rw add-one
 
   -- one pair more
-  pub settled-more : (k : ℕ) (out : List ℕ) (to : ℕ) → out ≡ settled l sides k → to ≡ closesTo (getD sides k 0)
+  pub settled-more : (k : ℕ) (out : List ℕ) (to : ℕ) → out ≡ settled l sides k → to ≡ closesTo (getD sides k false)
       → moved out (at held k) (at to k) (getD out (at held k) 0) ≡ settled l sides (k + 1)
   settled-more k out to e w =
       ap (λ (x : List ℕ). moved x (at held k) (at to k) (getD x (at held k) 0)) e
@@ -128,15 +125,15 @@ module _ (l sides : List ℕ) where
   pub length-settled : (k : ℕ) → length (settled l sides k) ≡ length l
   unfolding settled
   length-settled zero = refl
-  length-settled (suc k) = length-moved (settled l sides k) (at held k) (at (closesTo (getD sides k 0)) k) (getD (settled l sides k) (at held k) 0) ∙ length-settled k
+  length-settled (suc k) = length-moved (settled l sides k) (at held k) (at (closesTo (getD sides k false)) k) (getD (settled l sides k) (at held k) 0) ∙ length-settled k
 
   -- closing keeps every total
   pub total-settled : (k t : ℕ) → k ≤ 64 → t < 8 → length l ≡ 576 → total (settled l sides k) t ≡ total l t
   unfolding settled
   total-settled zero t hk ht long = refl
   total-settled (suc k) t hk ht long =
-      total-moved-at (settled l sides k) (closesTo (getD sides k 0)) k (getD (settled l sides k) (at held k) 0)
-      (closes-below (getD sides k 0)) (omega arith) (length-settled k ∙ long) (omega arith) t ht
+      total-moved-at (settled l sides k) (closesTo (getD sides k false)) k (getD (settled l sides k) (at held k) 0)
+      (closes-below (getD sides k false)) (omega arith) (length-settled k ∙ long) (omega arith) t ht
       ∙ total-settled k t (omega arith) ht long
 
   -- what a pair's account then holds is within what bounds the totals

@@ -28,8 +28,9 @@ use Rattle.post.proofs.moves.Laws.{move-fits}
 use Rattle.book.specs.Answer.{outcome}
 use Rattle.book.specs.Entry.{isThere, storeAfter, sumsAfter, handledAfter, closes, yearAfter}
 use Rattle.book.specs.Posts.{turnChecks, hasRoom, roomChecks, entered, postOn, takenTo, postsOn, singleOn}
-use Rattle.book.specs.Site.{Sound, SoundSetup, SoundYear, bookWith}
+use Rattle.book.specs.Site.{Sound, SoundYear, bookWith}
 use Rattle.book.specs.Steps.{Room, Entered, admitted, guarded, yearWith, Ran}
+use Rattle.plant.specs.Setup.{SoundSetup}
 use Rattle.book.specs.declared.answer.Answered.{Answered}
 use Rattle.book.specs.declared.site.Book.{Book}
 use Rattle.book.specs.declared.site.Year.{Year}
@@ -236,7 +237,7 @@ module _ (t : Turn) where
     turn-taken f = next-is ∙ on-there u y bytes m (admits u y bytes m e) ∙ rw f
 
     -- by the lists as they were entered
-    pub turn-entered : (store sums handled : List ℕ) (r closed : Bool) → Entered (u .counted) (u .sides) (y .store) (y .sums) (y .handled) m store sums handled r
+    pub turn-entered : (store sums handled : List ℕ) (r closed : Bool) → Entered (u .counted) (u .«to_water») (y .store) (y .sums) (y .handled) m store sums handled r
         → r ≡ true → closed ≡ closes m
         → all (t .place + 1) ≡ taken (yearWith store sums handled (y .posts + 1) closed)
     turn-entered store sums handled r closed w q k =
@@ -244,8 +245,8 @@ module _ (t : Turn) where
         ∙ ap taken (sym
         (ap (λ (l : List ℕ). yearWith l sums handled (y .posts + 1) closed) (w .store-is q)
         ∙ ap (λ (l : List ℕ). yearWith (storeAfter (y .store) m) l handled (y .posts + 1) closed) (w .sums-is q)
-        ∙ ap (λ (l : List ℕ). yearWith (storeAfter (y .store) m) (sumsAfter (u .counted) (u .sides) (y .sums) m) l (y .posts + 1) closed) (w .handled-is q)
-        ∙ ap (yearWith (storeAfter (y .store) m) (sumsAfter (u .counted) (u .sides) (y .sums) m) (handledAfter (u .counted) (y .handled) m) (y .posts + 1)) k))
+        ∙ ap (λ (l : List ℕ). yearWith (storeAfter (y .store) m) (sumsAfter (u .counted) (u .«to_water») (y .sums) m) l (y .posts + 1) closed) (w .handled-is q)
+        ∙ ap (yearWith (storeAfter (y .store) m) (sumsAfter (u .counted) (u .«to_water») (y .sums) m) (handledAfter (u .counted) (y .handled) m) (y .posts + 1)) k))
 
 -- ---- what a run leaves
 

@@ -6,25 +6,12 @@ use native.Mathlib.Nat.{zero-mul}
 use native.Mathlib.Omega.{arith}
 use lib.ListN.{getD, replicate, length-replicate}
 use Rattle.layout.specs.Each.{sumTo}
-use Rattle.plant.specs.Setup.{noRates}
 use Rattle.plant.specs.declared.setup.Setup.{Setup}
 use Rattle.layout.proofs.Each.{sum-none}
+use Rattle.plant.proofs.setup.Taken.{same-at, fresh-sound}
 use Rattle.book.specs.Ledger.{total, cellOf}
-use Rattle.book.specs.Site.{Sound, SoundYear, Rated, freshBook, storedTo}
+use Rattle.book.specs.Site.{Sound, SoundYear, freshBook, storedTo}
 use Rattle.book.specs.declared.site.Year.{Year}
-
--- each place of a list of one value has it
-pub same-at : {A : Type 0} (n i : ℕ) (a : A) → getD (replicate n a) i a ≡ a
-same-at zero i a = refl
-same-at (suc n) zero a = refl
-same-at (suc n) (suc i) a = same-at n i a
-
-pub no-rates-rated : Rated noRates
-no-rates-rated =
-    record { gas-removal = omega arith; gas-destruction = omega arith; water-removal = omega arith; water-destruction = omega arith }
-
-pub none-rated : (n pair : ℕ) → Rated (getD (replicate n noRates) pair noRates)
-none-rated n pair = rw (same-at n pair noRates) no-rates-rated
 
 -- an empty store holds nothing, whatever the contents
 pub stored-none : (store counted : List ℕ) (s : ℕ) → ((m : ℕ) → m < 12 → getD store m 0 ≡ 0) → storedTo store counted s 12 ≡ 0
@@ -41,20 +28,7 @@ total-none n s =
 pub sound-fresh : Sound freshBook
 sound-fresh =
     record {
-      setup =
-          record {
-            substances-few = omega arith;
-            materials-few = omega arith;
-            stages-few = omega arith;
-            described-few = omega arith;
-            stages-later = λ e. refl;
-            counted-small = λ i. omega (arith, same-at {A = ℕ} 96 i 0);
-            rated = none-rated 64;
-            rates-long = length-replicate 64 noRates;
-            sides-long = length-replicate {A = ℕ} 64 0;
-            water-long = length-replicate {A = ℕ} 8 0;
-            residue-long = length-replicate {A = ℕ} 8 0;
-          };
+      setup = fresh-sound;
       year =
           record {
             store-long = length-replicate {A = ℕ} 12 0;

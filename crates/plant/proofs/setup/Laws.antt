@@ -52,9 +52,9 @@ read outline numbers classes counted =
       numbers = numbers;
       classes = classes;
       counted = counted;
-      «water_to» = replicate 8 0;
-      «residue_to» = replicate 8 0;
-      sides = replicate 64 0;
+      «to_sewer» = replicate 8 false;
+      «to_landfill» = replicate 8 false;
+      «to_water» = replicate 64 false;
       rates = replicate 64 noRates;
     }
 

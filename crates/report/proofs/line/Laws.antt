@@ -1,11 +1,10 @@
 -- A stage's line weighs what its accounts hold, and the lines of all stages what the ledger does: so no heading passes 64 bits. Assumes nothing.
 use mathlib.Core.Path.{_≡_, refl, sym, ap, ap₂, _∙_}
-use mathlib.Core.Bool.{Bool, true, false, cond}
+use mathlib.Core.Bool.{Bool, true, false}
 use mathlib.Core.List.{List}
 use Prim.Native.Nat.{ℕ, zero, suc, _+_, _*_, _<_}
 use native.Mathlib.Numerals.{add-one}
 use native.Mathlib.Omega.{arith}
-use lib.Dec.{eqb}
 use lib.ListN.{getD}
 use Rattle.amounts.specs.Treatment.{partsOf}
 use Rattle.amounts.specs.declared.treatment.Parts.{Parts}
@@ -15,43 +14,44 @@ use Rattle.plant.specs.declared.setup.Rates.{Rates}
 use Rattle.plant.specs.declared.setup.Setup.{Setup}
 use Rattle.layout.proofs.Each.{sum-again, sum-mono}
 use Rattle.book.specs.Ledger.{total}
-use Rattle.book.specs.Site.{Rated, SoundSetup}
+use Rattle.plant.specs.Setup.{Rated, SoundSetup}
 use Rattle.book.proofs.ledger.Laws.{column, total-is}
-use Rattle.report.specs.Line.{atOne, atTwo, ratesOf, cellsOf, lineFrom, lineFor, stageLine, lineTo, weigh}
+use Rattle.report.specs.Line.{toSewer, toPublicWater, toLandfill, toOffSite, ratesOf, cellsOf, lineFrom, lineFor, stageLine, lineTo, weigh}
 use Rattle.report.specs.Steps.{noLine, addLines}
 use Rattle.report.specs.declared.line.Cells.{Cells}
 use Rattle.report.specs.declared.line.Line.{Line}
 
 -- ---- a stage
 
--- an amount goes to one of the two destinations
-pub one-or-two : (destination n : ℕ) → atOne destination n + atTwo destination n ≡ n
-one-or-two destination n = go (eqb destination 1)
-  where
-    go : (t : Bool) → cond t n 0 + cond t 0 n ≡ n
-    go true = omega arith
-    go false = omega arith
+-- an amount goes to one of its two destinations
+pub water-goes : (sewer : Bool) (n : ℕ) → toPublicWater sewer n + toSewer sewer n ≡ n
+water-goes true n = omega arith
+water-goes false n = omega arith
+
+pub residue-goes : (landfill : Bool) (n : ℕ) → toOffSite landfill n + toLandfill landfill n ≡ n
+residue-goes true n = omega arith
+residue-goes false n = omega arith
 
 -- all that a stage's accounts hold of a substance
 abbrev pub weighCells : Cells → ℕ
 weighCells c = c .held + c .shipped + c .«off_site» + c .landfill + c .soil + c .consumed + c .gas + c .water + c .vapour
 
-weigh-from : (c : Cells) (g w : Parts) (waterTo residueTo : ℕ) → g .released + g .destroyed + g .residue ≡ c .gas → w .released + w .destroyed + w .residue ≡ c .water
-    → weigh (lineFrom c g w waterTo residueTo) ≡ weighCells c
-weigh-from c g w waterTo residueTo p q = omega (arith, one-or-two waterTo (w .released), one-or-two residueTo (g .residue + w .residue))
+weigh-from : (c : Cells) (g w : Parts) (sewer landfill : Bool) → g .released + g .destroyed + g .residue ≡ c .gas → w .released + w .destroyed + w .residue ≡ c .water
+    → weigh (lineFrom c g w sewer landfill) ≡ weighCells c
+weigh-from c g w sewer landfill p q = omega (arith, water-goes sewer (w .released), residue-goes landfill (g .residue + w .residue))
 
-pub weigh-line : (c : Cells) (r : Rates) (waterTo residueTo : ℕ) → Rated r → weigh (lineFor c r waterTo residueTo) ≡ weighCells c
-weigh-line c r waterTo residueTo h =
-    weigh-from c (partsOf (c .gas) (r .«gas_removal») (r .«gas_destruction»)) (partsOf (c .water) (r .«water_removal») (r .«water_destruction»)) waterTo residueTo
+pub weigh-line : (c : Cells) (r : Rates) (sewer landfill : Bool) → Rated r → weigh (lineFor c r sewer landfill) ≡ weighCells c
+weigh-line c r sewer landfill h =
+    weigh-from c (partsOf (c .gas) (r .«gas_removal») (r .«gas_destruction»)) (partsOf (c .water) (r .«water_removal») (r .«water_destruction»)) sewer landfill
     (conserved (c .gas) (r .«gas_removal») (r .«gas_destruction») (h .gas-removal) (h .gas-destruction))
     (conserved (c .water) (r .«water_removal») (r .«water_destruction») (h .water-removal) (h .water-destruction))
 
 -- a line put together from its parts
-pub line-is : (c d : Cells) (g w : Parts) (r : Rates) (waterTo residueTo : ℕ) → c ≡ d
+pub line-is : (c d : Cells) (g w : Parts) (r : Rates) (sewer landfill : Bool) → c ≡ d
     → g ≡ partsOf (c .gas) (r .«gas_removal») (r .«gas_destruction») → w ≡ partsOf (c .water) (r .«water_removal») (r .«water_destruction»)
-    → lineFrom c g w waterTo residueTo ≡ lineFor d r waterTo residueTo
-line-is c d g w r waterTo residueTo e p q =
-    ap₂ (λ (x y : Parts). lineFrom c x y waterTo residueTo) p q ∙ ap (λ (x : Cells). lineFor x r waterTo residueTo) e
+    → lineFrom c g w sewer landfill ≡ lineFor d r sewer landfill
+line-is c d g w r sewer landfill e p q =
+    ap₂ (λ (x y : Parts). lineFrom c x y sewer landfill) p q ∙ ap (λ (x : Cells). lineFor x r sewer landfill) e
 
 -- ---- all stages
 
@@ -74,7 +74,7 @@ module _ (sums : List ℕ) (u : Setup) (s : ℕ) where
   module _ (h : SoundSetup u) where
     stage-weighs : (k : ℕ) → weigh (stageLine sums u s k) ≡ column sums s k
     stage-weighs k =
-        weigh-line (cellsOf sums k s) (ratesOf u k s) (getD (u .«water_to») k 0) (getD (u .«residue_to») k 0) (h .rated (k * 8 + s)) ∙ column-is sums k s
+        weigh-line (cellsOf sums k s) (ratesOf u k s) (getD (u .«to_sewer») k false) (getD (u .«to_landfill») k false) (h .rated (k * 8 + s)) ∙ column-is sums k s
 
     lines-weigh : (n : ℕ) → weigh (lineTo sums u s n) ≡ sumTo n (column sums s)
     unfolding sumTo

@@ -10,7 +10,8 @@ use Rattle.amounts.specs.Filed.{stepOf, filedOf}
 use Rattle.amounts.proofs.filed.Laws.{filed-within}
 use Rattle.plant.specs.declared.setup.Setup.{Setup}
 use Rattle.book.specs.Ledger.{total}
-use Rattle.book.specs.Site.{stored, inYear, Sound, SoundSetup, SoundYear}
+use Rattle.book.specs.Site.{stored, inYear, Sound, SoundYear}
+use Rattle.plant.specs.Setup.{SoundSetup}
 use Rattle.book.specs.declared.site.Book.{Book}
 use Rattle.book.specs.declared.site.Year.{Year}
 use Rattle.report.specs.Line.{lineTo, sixOf, weigh, mapHeadings}

@@ -9,10 +9,10 @@ use Rattle.book.proofs.ledger.settle.Statement.{statement}
 use Rattle.book.proofs.ledger.settle.Tie as tie
 
 abbrev Inv-loop : tie.InvT-loop
-Inv-loop sums₀ sides pair₀ sums pair = (pair ≤ 64) × (sums ≡ settled sums₀ sides pair)
+Inv-loop sums₀ water pair₀ sums pair = (pair ≤ 64) × (sums ≡ settled sums₀ water pair)
 
 abbrev μ-loop : tie.MeasureT-loop
-μ-loop sums₀ sides pair₀ sums pair = 64 - pair
+μ-loop sums₀ water pair₀ sums pair = 64 - pair
 
 small : (c : tie.After-closes-to Inv-loop μ-loop) → c .closes-to .result < 9
 small c = rw (c .closes-to .ensures) (closes-below _)
@@ -51,7 +51,7 @@ shift-requires c κs =
     let l = t .before .before .before in
     let pre = l .before .pre in (
       (omega arith, omega (arith, small t), omega arith),
-      settled-room (l .before .args .sums .now) (l .before .args .sides .now) (l .loop .pair) (l .loop .sums) (t .closes-to .result) 18446744073709551616 (l .loop .inv .1)
+      settled-room (l .before .args .sums .now) (l .before .args .to-water .now) (l .loop .pair) (l .loop .sums) (t .closes-to .result) 18446744073709551616 (l .loop .inv .1)
           (omega arith) (small t) (pre .1) (pre .0),
     )
 
@@ -67,14 +67,14 @@ loop-again c =
     let l = t .before .before .before in (
       search needs,
       c .shift .ensures
-          ∙ settled-more (l .before .args .sums .now) (l .before .args .sides .now) (l .loop .pair) (l .loop .sums) (t .closes-to .result) (l .loop .inv .1) (t .closes-to .ensures),
+          ∙ settled-more (l .before .args .sums .now) (l .before .args .to-water .now) (l .loop .pair) (l .loop .sums) (t .closes-to .result) (l .loop .inv .1) (t .closes-to .ensures),
     )
 
 returns : tie.Need-returns Inv-loop μ-loop
 returns c =
     let l = c .before in
     let e : l .loop .pair ≡ 64 = omega arith in
-    l .loop .inv .1 ∙ ap (settled (l .before .args .sums .now) (l .before .args .sides .now)) e
+    l .loop .inv .1 ∙ ap (settled (l .before .args .sums .now) (l .before .args .to-water .now)) e
 
 pub settle-spec : {M : Type 1} → statement M
 settle-spec =

@@ -7,7 +7,7 @@ use Rattle.layout.specs.Posts.{ownChecks}
 use Rattle.layout.proofs.posts.Laws.{Owned, owned}
 use Rattle.book.specs.Steps.{yearWith}
 use Rattle.book.specs.declared.site.Year.{Year}
-use Rattle.book.proofs.answer.Laws.{table-declined, table-accepted}
+use Rattle.plant.proofs.Ended.{table-declined, table-accepted}
 use Rattle.book.proofs.posts.Laws.{own, own-declined, own-taken, ran-declined, ran-same}
 use borrow.Author.Needs.{needs}
 use Rattle.book.proofs.posts.run_body.Statement.{statement}

@@ -2,10 +2,11 @@
 use mathlib.Core.Path.{_≡_, refl, ap₂, _∙_}
 use mathlib.Core.Bool.{true}
 use denote.Ref.{now}
-use Prim.Native.Nat.{_≤_, _-_}
+use Prim.Native.Nat.{ℕ, _≤_, _-_}
 use borrow.Author.Needs.{needs}
+use Rattle.plant.specs.declared.setup.Rates.{Rates}
 use Rattle.layout.specs.Each.{allTo}
-use Rattle.plant.specs.Stage.{ratesFit, sideRow, rateRow}
+use Rattle.plant.specs.Stage.{secondOf, ratesFit, sideRow, rateRow}
 use Rattle.layout.proofs.Each.{all-again, all-done, all-fails}
 use Rattle.layout.proofs.verdict.Laws.{holds, misses}
 use Rattle.plant.proofs.stage.all_rates_fit.Statement.{statement}
@@ -39,7 +40,7 @@ rates-fit-requires c κs = search needs
 -- what the code has of a row
 row-told : (c : tie.After-rates-fit Inv-loop μ-loop) → let k = c .before .before .before .before in
     c .rates-fit .result ≡ ratesFit (sideRow (now (k .before .before .args .s)) (k .loop .i)) (rateRow (now (k .before .before .args .s)) (k .loop .i))
-row-told c = c .rates-fit .ensures ∙ ap₂ ratesFit (c .before .before .byte-at .ensures) (c .before .rates-at .ensures)
+row-told c = c .rates-fit .ensures ∙ ap₂ (λ (byte : ℕ) (r : Rates). ratesFit (secondOf byte) r) (c .before .before .byte-at .ensures) (c .before .rates-at .ensures)
 
 returns : tie.Need-returns Inv-loop μ-loop
 returns c =

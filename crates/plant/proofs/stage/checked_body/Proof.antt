@@ -1,10 +1,16 @@
 use mathlib.Core.Path.{ap, _∙_}
-use Rattle.layout.specs.Bytes.{within}
-use Rattle.plant.specs.Stage.{allRatesFit}
+use mathlib.Core.Bool.{Bool}
+use Prim.Native.Nat.{ℕ}
+use Rattle.amounts.specs.Decline.{isTaken}
+use Rattle.plant.specs.Stage.{secondOf, allRatesFit}
 use Rattle.layout.proofs.verdict.Laws.{row-is, through}
 use borrow.Author.Needs.{needs}
+use Rattle.plant.proofs.stage.Laws.{case-is}
 use Rattle.plant.proofs.stage.checked_body.Statement.{statement}
 use Rattle.plant.proofs.stage.checked_body.Tie as tie
+
+abbrev cased : ℕ → Bool
+cased byte = isTaken (secondOf byte)
 
 mul-zero-from : tie.Need-mul-zero-from
 mul-zero-from c = search needs
@@ -50,8 +56,8 @@ returns c =
     let residue = c .before .before .before in
     let rates = residue .before .before .before in
     let zeros = rates .before .before .before in
-    row-is _ _ _ _ (c .row4 .ensures) (c .before .is-within2 .ensures ∙ ap (within 1 2) (c .before .before .byte-at2 .ensures))
-    (row-is _ _ _ _ (residue .row3 .ensures) (residue .before .is-within .ensures ∙ ap (within 1 2) (residue .before .before .byte-at .ensures))
+    row-is _ _ _ _ (c .row4 .ensures) (c .before .is-within2 .ensures ∙ case-is _ ∙ ap cased (c .before .before .byte-at2 .ensures))
+    (row-is _ _ _ _ (residue .row3 .ensures) (residue .before .is-within .ensures ∙ case-is _ ∙ ap cased (residue .before .before .byte-at .ensures))
     (row-is _ _ _ _ (rates .row2 .ensures) (rates .before .all-rates-fit .ensures ∙ ap (allRatesFit _) (rates .before .before .tail .ensures))
     (row-is _ _ _ _ (zeros .row .ensures) (zeros .before .zero-from .ensures) (through (tt {0})))))
 

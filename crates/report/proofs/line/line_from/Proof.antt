@@ -1,14 +1,14 @@
 use Prim.Native.Nat.{_+_}
 use native.Mathlib.Omega.{arith}
 use borrow.Author.Needs.{needs}
-use Rattle.report.proofs.line.Laws.{one-or-two}
+use Rattle.report.proofs.line.Laws.{residue-goes}
 use Rattle.report.proofs.line.line_from.Statement.{statement}
 use Rattle.report.proofs.line.line_from.Tie as tie
 
 add-residue : tie.Need-add-residue
 add-residue c =
     let s = c .before .before in
-    omega (arith, s .pre, one-or-two (s .args .residue-to) (s .args .gas .residue + s .args .water .residue))
+    omega (arith, s .pre, residue-goes (s .args .landfilled) (s .args .gas .residue + s .args .water .residue))
 
 add-destroyed : tie.Need-add-destroyed
 add-destroyed c = search needs
@@ -16,20 +16,20 @@ add-destroyed c = search needs
 add-air : tie.Need-add-air
 add-air c = search needs
 
-at-one-requires : tie.Need-at-one-requires
-at-one-requires c κs = search needs
+to-public-water-requires : tie.Need-to-public-water-requires
+to-public-water-requires c κs = search needs
 
-at-two-requires : tie.Need-at-two-requires
-at-two-requires c κs = search needs
+to-sewer-requires : tie.Need-to-sewer-requires
+to-sewer-requires c κs = search needs
 
-at-one-requires-2 : tie.Need-at-one-requires-2
-at-one-requires-2 c κs = search needs
+to-off-site-requires : tie.Need-to-off-site-requires
+to-off-site-requires c κs = search needs
 
 add-offsite : tie.Need-add-offsite
 add-offsite c = search needs
 
-at-two-requires-2 : tie.Need-at-two-requires-2
-at-two-requires-2 c κs = search needs
+to-landfill-requires : tie.Need-to-landfill-requires
+to-landfill-requires c κs = search needs
 
 add-land : tie.Need-add-land
 add-land c = search needs
@@ -39,7 +39,7 @@ returns c =
     let land = c .before in
     let offsite = land .before .before in
     let sewer = offsite .before in
-    rw (sewer .before .at-one .ensures, sewer .at-two .ensures, offsite .at-one2 .ensures, land .at-two2 .ensures)
+    rw (sewer .before .to-public-water .ensures, sewer .to-sewer .ensures, offsite .to-off-site .ensures, land .to-landfill .ensures)
 
 pub line-from-spec : {M : Type 1} → statement M
 line-from-spec =
@@ -48,10 +48,10 @@ line-from-spec =
     add-residue
     add-destroyed
     add-air
-    at-one-requires
-    at-two-requires
-    at-one-requires-2
+    to-public-water-requires
+    to-sewer-requires
+    to-off-site-requires
     add-offsite
-    at-two-requires-2
+    to-landfill-requires
     add-land
     returns)

@@ -1,4 +1,5 @@
 use mathlib.Core.Path.{_≡_, sym, _∙_, subst}
+use mathlib.Core.Bool.{false}
 use Prim.Native.Nat.{_^_, _<_}
 use lib.ListN.{getD}
 use denote.Ref.{now}
@@ -15,14 +16,14 @@ start c = c .before .before .before .before .before .before
 -- the line put together is the stage's
 staged : (c : tie.After-line-from-arg2) → let a = start c .args in
     lineFrom (c .before .before .before .before .before .cells-of .result) (c .before .before .before .parts-of .result) (c .before .before .parts-of2 .result)
-    (getD (a .t2 .«water_to») (a .stage) 0) (getD (a .t2 .«residue_to») (a .stage) 0)
+    (getD (a .t2 .«to_sewer») (a .stage) false) (getD (a .t2 .«to_landfill») (a .stage) false)
     ≡ stageLine (now (a .sums)) (a .t2) (a .s) (a .stage)
 staged c =
     let a = start c .args in
     let water = c .before .before in
     let cells = water .before .before .before in
     line-is (cells .cells-of .result) (cellsOf (now (a .sums)) (a .stage) (a .s)) (water .before .parts-of .result) (water .parts-of2 .result) (ratesOf (a .t2) (a .stage) (a .s))
-    (getD (a .t2 .«water_to») (a .stage) 0) (getD (a .t2 .«residue_to») (a .stage) 0)
+    (getD (a .t2 .«to_sewer») (a .stage) false) (getD (a .t2 .«to_landfill») (a .stage) false)
     (cells .cells-of .ensures) (water .before .parts-of .ensures) (water .parts-of2 .ensures)
 
 cells-of-requires : tie.Need-cells-of-requires

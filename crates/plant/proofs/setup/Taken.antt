@@ -1,23 +1,50 @@
--- What a kind 1 block that is taken leaves. Assumes nothing.
+-- What is true of the fresh set-up, and of what a kind 1 block that is taken leaves. Assumes nothing.
 use mathlib.Core.Path.{_≡_, refl}
 use mathlib.Core.Bool.{Bool, true, false, cond}
 use mathlib.Core.List.{List, [], _∷_}
-use Prim.Native.Nat.{ℕ, _%_, _≤_}
+use Prim.Native.Nat.{ℕ, zero, suc, _%_, _≤_}
 use native.Mathlib.Omega.{arith}
 use lib.Dec.{leb}
-use lib.ListN.{length, getD, length-replicate}
+use lib.ListN.{length, getD, replicate, length-replicate}
 use borrow.Author.Tests.{eqb-true, eq-eqb, leb-true}
 use Rattle.amounts.specs.Class.{isClass}
 use Rattle.amounts.specs.Content.{countedFrom, countedOf}
 use Rattle.amounts.specs.Decline.{taken, check, checked, valueOr, layout}
 use Rattle.layout.specs.Outline.{mayPost}
-use Rattle.plant.specs.Setup.{noRates, materialsIn, stagesIn, classesIn, contentsIn, countedAll, setupChecks, setupOf}
+use Rattle.plant.specs.Setup.{noRates, materialsIn, stagesIn, classesIn, contentsIn, countedAll, setupChecks, freshSetup, setupOf, Rated, SoundSetup}
 use Rattle.layout.specs.declared.outline.Outline.{Outline}
 use Rattle.layout.proofs.Checked.{passed}
 use Rattle.layout.proofs.Each.{list-keeps}
 use Rattle.layout.proofs.bytes.Laws.{within-true}
-use Rattle.book.specs.Site.{SoundSetup}
-use Rattle.book.proofs.site.Laws.{none-rated}
+
+-- each place of a list of one value has it
+pub same-at : {A : Type 0} (n i : ℕ) (a : A) → getD (replicate n a) i a ≡ a
+same-at zero i a = refl
+same-at (suc n) zero a = refl
+same-at (suc n) (suc i) a = same-at n i a
+
+pub no-rates-rated : Rated noRates
+no-rates-rated =
+    record { gas-removal = omega arith; gas-destruction = omega arith; water-removal = omega arith; water-destruction = omega arith }
+
+pub none-rated : (n pair : ℕ) → Rated (getD (replicate n noRates) pair noRates)
+none-rated n pair = rw (same-at n pair noRates) no-rates-rated
+
+pub fresh-sound : SoundSetup freshSetup
+fresh-sound =
+    record {
+      substances-few = omega arith;
+      materials-few = omega arith;
+      stages-few = omega arith;
+      described-few = omega arith;
+      stages-later = λ e. refl;
+      counted-small = λ i. omega (arith, same-at {A = ℕ} 96 i 0);
+      rated = none-rated 64;
+      rates-long = length-replicate 64 noRates;
+      sides-long = length-replicate 64 false;
+      sewer-long = length-replicate 8 false;
+      landfill-long = length-replicate 8 false;
+    }
 
 -- a content that counts is at most the whole
 counted-le : (class ppm : ℕ) → valueOr 0 (countedOf class ppm) ≤ 1000000
@@ -71,7 +98,7 @@ sound-set-up o count body a =
       counted-small = counted-all-le (classesIn body) (contentsIn body);
       rated = none-rated 64;
       rates-long = length-replicate 64 noRates;
-      sides-long = length-replicate {A = ℕ} 64 0;
-      water-long = length-replicate {A = ℕ} 8 0;
-      residue-long = length-replicate {A = ℕ} 8 0;
+      sides-long = length-replicate 64 false;
+      sewer-long = length-replicate 8 false;
+      landfill-long = length-replicate 8 false;
     }

@@ -1,12 +1,9 @@
-use mathlib.Core.Path.{sym, ap, _∙_}
 use denote.Ref.{now}
-use Rattle.amounts.specs.Decline.{taken}
-use Rattle.plant.specs.Setup.{setupChecks, setupOf}
-use Rattle.book.specs.Setup.{setUpOn}
-use Rattle.book.proofs.answer.Laws.{guard-declined, table-accepted}
+use Rattle.plant.specs.Setup.{setupChecks, setupOf, setUpOn}
+use Rattle.plant.proofs.Ended.{table-accepted, end-declined, end-accepted}
 use borrow.Author.Needs.{needs}
-use Rattle.book.proofs.setup.set_up.Statement.{statement}
-use Rattle.book.proofs.setup.set_up.Tie as tie
+use Rattle.plant.proofs.setup.set_up.Statement.{statement}
+use Rattle.plant.proofs.setup.set_up.Tie as tie
 
 check-setup-requires : tie.Need-check-setup-requires
 check-setup-requires c κs = search needs
@@ -18,7 +15,7 @@ returns : tie.Need-returns
 unfolding setUpOn
 returns c =
     let a = c .before .before .before .before .before .args in
-    guard-declined (setupChecks (a .u .outline) (a .count) (now (a .body))) _ (setupOf (a .count) (now (a .body))) (c .before .before .check-setup .ensures) _ _ (c .enum-told .given .1)
+    end-declined (a .u) (setupOf (a .count) (now (a .body))) (setupChecks (a .u .outline) (a .count) (now (a .body))) _ (c .before .before .check-setup .ensures) _ (c .enum-told .given .1)
 
 enum-told-2 : tie.Need-enum-told-2
 enum-told-2 c = search needs
@@ -31,8 +28,10 @@ unfolding setUpOn
 returns-2 c =
     let k = c .before .before .before in
     let a = k .before .before .before .args in
-    ap taken (c .parse .ensures)
-    ∙ sym (table-accepted (setupChecks (a .u .outline) (a .count) (now (a .body))) _ (setupOf (a .count) (now (a .body))) (k .check-setup .ensures) (c .before .enum-told2 .given .1))
+    let body = now (a .body) in
+    let rows = setupChecks (a .u .outline) (a .count) body in
+    end-accepted (a .u) (setupOf (a .count) body) _ rows (c .parse .ensures)
+    (table-accepted rows _ (setupOf (a .count) body) (k .check-setup .ensures) (c .before .enum-told2 .given .1))
 
 pub set-up-spec : {M : Type 1} → statement M
 set-up-spec =
