@@ -1,5 +1,5 @@
 -- What a call on a book returns, and what its verdict tells of its answer. Assumes nothing.
-use mathlib.Core.Path.{_≡_, refl, sym, ap, _∙_}
+use mathlib.Core.Path.{_≡_, refl, sym, ap}
 use Prim.Native.Nat.{ℕ}
 use native.Mathlib.Omega.{arith}
 use Rattle.amounts.specs.Decline.{Answer, taken, declined}

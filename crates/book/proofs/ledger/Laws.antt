@@ -1,17 +1,16 @@
 -- Laws of the ledger: what each change of its sums does to the total of each substance. Assumes nothing.
 use mathlib.Core.Path.{_≡_, refl, sym, ap, _∙_}
-use mathlib.Core.Bool.{Bool, true, false, cond}
+use mathlib.Core.Bool.{Bool, true, false}
 use mathlib.Core.List.{List}
 use Prim.Native.Nat.{ℕ, zero, suc, _+_, _-_, _*_, _/_, _%_, _≤_, _<_}
 use native.Mathlib.Decide.{ℕ-discrete, decLt}
 use native.Mathlib.Numerals.{add-one}
 use native.Mathlib.Omega.{arith}
-use lib.Dec.{eqb}
 use lib.ListN.{length, getD, set, length-set}
 use lib.Seq.{getD-set-same, getD-set-other}
 use Rattle.layout.specs.Each.{sumTo, putTo}
 use Rattle.layout.proofs.Each.{put-again, length-put, put-other, put-at, sum-same, sum-point, term-le}
-use Rattle.post.specs.Account.{held, water, gas}
+use Rattle.post.specs.Account.{held}
 use Rattle.book.specs.Ledger.{at, cellOf, cell, total, moved, raised, closesTo, settled}
 
 -- ---- one write

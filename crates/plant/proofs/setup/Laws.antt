@@ -8,13 +8,13 @@ use Rattle.plant.specs.Setup.{noRates, numbersIn, classesIn, contentsIn,
 use Prim.Native.Nat.{ℕ, _+_, _*_, _≤_, _<_}
 use native.Mathlib.Numerals.{add-one}
 use native.Mathlib.Omega.{arith}
-use lib.Dec.{ltb, leb}
+use lib.Dec.{ltb}
 use lib.ListN.{drop, set, replicate}
 use lib.Seq.{drop-drop}
-use borrow.Author.Tests.{lt-ltb, le-ltb, leb-true}
-use Rattle.layout.specs.Bytes.{le, les, within}
+use borrow.Author.Tests.{lt-ltb, le-ltb}
+use Rattle.layout.specs.Bytes.{le, les}
 use Rattle.layout.specs.Each.{allTo, putTo}
-use Rattle.layout.proofs.Each.{put-again, fill-done, and-true, all-again, all-fails}
+use Rattle.layout.proofs.Each.{put-again, fill-done, all-again, all-fails}
 
 -- ---- numbers of w bytes, one after the other
 
