@@ -18,10 +18,10 @@ pub fn filed_figure(amount: u64) -> u64
     ensures { λ r. ⌜ r ≡ filedOf amount ⌝ }
 {
     let step = step_of(amount);
-    let whole = amount / step;
+    let steps = amount / step;
     if amount % step < step / 2 {
-        whole * step
+        steps * step
     } else {
-        (whole + 1) * step
+        (steps + 1) * step
     }
 }

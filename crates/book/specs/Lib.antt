@@ -4,5 +4,5 @@ pub mod Answer
 pub mod Entry
 pub mod Posts
 pub mod Block
-pub mod Whole
+pub mod Blocks
 pub mod Steps

@@ -26,7 +26,7 @@ use Rattle.layout.proofs.frame.Made.{held-made}
 use Rattle.book.specs.Block.{blockOn}
 use Rattle.book.specs.Posts.{postOn, takenTo, singleOn}
 use Rattle.book.specs.Site.{freshBook, freshYear, bookWith}
-use Rattle.book.specs.Whole.{partsTo, partsIn, read, onward, readAll}
+use Rattle.book.specs.Blocks.{partsTo, partsIn, read, onward, readAll}
 use Rattle.book.specs.declared.site.Book.{Book}
 use Rattle.book.specs.declared.site.Year.{Year}
 use Rattle.book.proofs.block.Laws.{Done, set-up, described, block-done}

@@ -16,7 +16,7 @@ use Rattle.book.specs.Block.{blockOn}
 use Rattle.book.specs.Posts.{postsOn, singleOn}
 use Rattle.book.specs.Site.{freshBook}
 use Rattle.book.specs.declared.site.Book.{Book}
-use Rattle.book.specs.Whole.{partsTo, partsIn, refused, readAll}
+use Rattle.book.specs.Blocks.{partsTo, partsIn, refused, readAll}
 use Rattle.writer.specs.Calls.{Call, setUp, post, end, accepted}
 use Rattle.writer.specs.Page as page
 use Rattle.writer.specs.Page.{freshPage}

@@ -7,7 +7,7 @@ use lib.ListN.{length}
 use Rattle.amounts.specs.Decline.{taken}
 use Rattle.layout.specs.Frame.{blockOf}
 use Rattle.book.specs.Site.{freshBook, bookWith}
-use Rattle.book.specs.Whole.{partsIn, read, readAll}
+use Rattle.book.specs.Blocks.{partsIn, read, readAll}
 use Rattle.book.specs.declared.site.Book.{Book}
 use Rattle.journal.specs.Reading.{printedOf}
 use Rattle.text.specs.Print.{returnText}

@@ -11,7 +11,7 @@ use text::writing::Written;
 // What was read up to the end of the input or to the first decline, or to a read that failed.
 struct Journal {
     reading: Reading,
-    is_whole: bool,
+    is_read: bool,
 }
 
 fn read_journal() -> Journal
@@ -28,13 +28,13 @@ fn read_journal() -> Journal
             Part::End => {
                 return Journal {
                     reading,
-                    is_whole: true,
+                    is_read: true,
                 };
             }
             Part::Failed => {
                 return Journal {
                     reading,
-                    is_whole: false,
+                    is_read: false,
                 };
             }
             Part::Full | Part::Short(_) => {}
@@ -43,7 +43,7 @@ fn read_journal() -> Journal
     }
     Journal {
         reading,
-        is_whole: true,
+        is_read: true,
     }
 }
 
@@ -59,7 +59,7 @@ fn show(out: &[u8], n: usize) {
 
 fn main() {
     let journal = read_journal();
-    if !journal.is_whole {
+    if !journal.is_read {
         trouble::unread(b"filing");
         return;
     }

@@ -6,7 +6,7 @@ use mathlib.Core.List.{List, [], _∷_}
 use Rattle.amounts.specs.Decline.{Answer, taken, declined}
 use Rattle.book.specs.Block.{blockOn}
 use Rattle.book.specs.Site.{freshBook}
-use Rattle.book.specs.Whole.{partsIn, Outcome, read, refused, readAll}
+use Rattle.book.specs.Blocks.{partsIn, Outcome, read, refused, readAll}
 use Rattle.book.specs.declared.site.Book.{Book}
 use Rattle.text.specs.Line.{refusedText}
 use Rattle.text.specs.Print.{returnText}

@@ -5,9 +5,9 @@ ghost use Rattle.text.specs.Writing.{Tries};
 ghost use Rattle.journal.specs.Reading.{printedOf, started, fed, hasStopped, textOf, Advances};
 use amounts::decline::Decline;
 use book::block;
+use book::blocks;
 use book::site;
 use book::site::Book;
-use book::whole;
 use layout::verdict::Verdict;
 use text::print;
 use text::writing::Written;
@@ -84,10 +84,10 @@ pub fn print(r: Reading, out: &mut [u8]) -> Written
 }
 
 // What a whole journal in memory prints, where as many bytes are free.
-pub fn print_whole(journal: &[u8], out: &mut [u8]) -> Written
+pub fn print_journal(journal: &[u8], out: &mut [u8]) -> Written
     ensures { λ w. ⌜ Tries 1336 (now (out .entry)) 0 (printedOf (now (journal .entry))) (now (out .exit)) w ⌝ }
 {
-    let end = whole::take_whole(journal);
+    let end = blocks::take_blocks(journal);
     let v = end.verdict;
     let b = end.book;
     match v {

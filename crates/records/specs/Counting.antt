@@ -9,9 +9,9 @@ use Rattle.writer.specs.Page.{Page}
 use Rattle.writer.specs.Tally.{setUpOn, postOn, ended}
 use Rattle.writer.specs.declared.tally.Tally.{Tally}
 use Rattle.records.specs.Records.{Recorded, call, malformed}
-use Rattle.records.specs.Whole.{malformedNumber, Outcome, whole, stopped, writtenIn}
-use Rattle.records.specs.declared.whole.Stop.{Stop}
-use Rattle.records.specs.declared.whole.Stop.the-variants.{At, Nowhere}
+use Rattle.records.specs.Batch.{malformedNumber, Outcome, complete, stopped, writtenIn}
+use Rattle.records.specs.declared.batch.Stop.{Stop}
+use Rattle.records.specs.declared.batch.Stop.the-variants.{At, Nowhere}
 
 abbrev pub callCounted : ℕ → Tally → Call → Answer Tally
 callCounted room t (setUp kind count body) = setUpOn room t kind count body
@@ -23,7 +23,7 @@ recordCounted room t (call c) = callCounted room t c
 recordCounted room t malformed = declined malformedNumber
 
 abbrev pub stopOf : Outcome → Stop
-stopOf (whole p) = Nowhere
+stopOf (complete p) = Nowhere
 stopOf (stopped place n) = At n place
 
 -- the first record that isn't taken, in whichever buffer of so many bytes
@@ -32,5 +32,5 @@ StopsIn room s r = (lent : List ℕ) → length lent ≡ room → r ≡ stopOf (
 
 -- the length and the buffer of an outcome that is whole
 pub record Filled (o : Outcome) (n : ℕ) (bytes : List ℕ) : Type 0 where
-  pub filled : (p : Page) → o ≡ whole p → n ≡ p .filled
-  pub bytes-are : (p : Page) → o ≡ whole p → bytes ≡ p .bytes
+  pub filled : (p : Page) → o ≡ complete p → n ≡ p .filled
+  pub bytes-are : (p : Page) → o ≡ complete p → bytes ≡ p .bytes

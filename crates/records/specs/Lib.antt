@@ -1,3 +1,3 @@
 pub mod Records
-pub mod Whole
+pub mod Batch
 pub mod Counting

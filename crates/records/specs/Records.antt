@@ -32,14 +32,14 @@ abbrev pub spanOf : List ℕ → ℕ
 spanOf s = 3 + le 2 (drop 1 s)
 
 -- not cut short: neither fewer than 3 bytes are left nor fewer than its length
-abbrev pub isWhole : List ℕ → Bool
-isWhole s = leb (spanOf s) (length s)
+abbrev pub isComplete : List ℕ → Bool
+isComplete s = leb (spanOf s) (length s)
 
 abbrev pub bytesOf : List ℕ → List ℕ
 bytesOf s = take (le 2 (drop 1 s)) (drop 3 s)
 
 unfoldable pub firstOf : List ℕ → Recorded
-firstOf s = cond (isWhole s) (recordOf (tagOf s) (bytesOf s)) malformed
+firstOf s = cond (isComplete s) (recordOf (tagOf s) (bytesOf s)) malformed
 
 abbrev pub restOf : List ℕ → List ℕ
 restOf s = drop (spanOf s) s

@@ -1,7 +1,7 @@
 // A record on a page: a lent buffer, its filled length and the block being filled.
 ghost use Rattle.writer.specs.Page.{pageOf, Sound, Answers};
 ghost use Rattle.records.specs.Records.{recordOf, firstOf};
-ghost use Rattle.records.specs.Whole.{recordOn};
+ghost use Rattle.records.specs.Batch.{recordOn};
 use crate::record;
 use layout::bytes;
 use layout::verdict::Verdict;

@@ -3,7 +3,7 @@ ghost use mathlib.Core.Bool.{true, false};
 ghost use mathlib.Core.Path.{_≡_};
 ghost use lib.ListN.{length};
 ghost use Rattle.book.specs.Site.{Sound};
-ghost use Rattle.streams.specs.Record.{Within, isWhole};
+ghost use Rattle.streams.specs.Record.{Within, isComplete};
 use crate::line;
 use book::answer::Answered;
 use book::block;
@@ -97,10 +97,10 @@ pub(crate) fn answer(b: Book, o: Output, r: Record, space: &[u8]) -> State
     requires { ⌜ Sound b ⌝ }
     requires { ⌜ Within (length (now space)) r ⌝ }
     ensures { λ t. ⌜ Sound (t .book) ⌝ }
-    ensures { λ t. ⌜ (t .is_open ≡ true → isWhole r ≡ true) ⌝ }
+    ensures { λ t. ⌜ (t .is_open ≡ true → isComplete r ≡ true) ⌝ }
 {
     match r {
-        Record::Whole(tag, size) => call(b, o, tag, &space[..size]),
+        Record::Complete(tag, size) => call(b, o, tag, &space[..size]),
         Record::Malformed => malformed(b, o),
         Record::End => closed(b, o),
         Record::Failed => {

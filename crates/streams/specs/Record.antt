@@ -7,17 +7,17 @@ use lib.ListN.{length}
 use Rattle.streams.specs.declared.input.Input.{Input}
 use Rattle.streams.specs.declared.record.Found.{Found}
 use Rattle.streams.specs.declared.record.Record.{Record}
-use Rattle.streams.specs.declared.record.Record.the-variants.{Whole, Malformed, End, Failed}
+use Rattle.streams.specs.declared.record.Record.the-variants.{Complete, Malformed, End, Failed}
 
-abbrev pub isWhole : Record → Bool
-isWhole (Whole tag size) = true
-isWhole Malformed = false
-isWhole End = false
-isWhole Failed = false
+abbrev pub isComplete : Record → Bool
+isComplete (Complete tag size) = true
+isComplete Malformed = false
+isComplete End = false
+isComplete Failed = false
 
 -- a whole record stands in the space that was lent
 abbrev pub Within : ℕ → Record → Type 0
-Within room (Whole tag size) = size ≤ room
+Within room (Complete tag size) = size ≤ room
 Within room Malformed = Unit {0}
 Within room End = Unit {0}
 Within room Failed = Unit {0}
@@ -26,4 +26,4 @@ Within room Failed = Unit {0}
 pub record Follows (from : Input) (given after : List ℕ) (n : Found) : Type 0 where
   pub same-length : length after ≡ length given
   pub within : Within (length given) (n .«record»)
-  pub falls : isWhole (n .«record») ≡ true → n .input .left < from .left
+  pub falls : isComplete (n .«record») ≡ true → n .input .left < from .left

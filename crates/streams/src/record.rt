@@ -8,7 +8,7 @@ use crate::input::Part;
 
 // A whole record has its tag, and how many bytes stand in the space that was lent. One that is cut short, or longer than the space, is malformed.
 pub enum Record {
-    Whole(u8, usize),
+    Complete(u8, usize),
     Malformed,
     End,
     Failed,
@@ -46,7 +46,7 @@ fn body(from: Input, tag: u8, size: usize, space: &mut [u8]) -> Found
     let input = taken.input;
     let part = taken.part;
     let record = match part {
-        Part::Full => Record::Whole(tag, size),
+        Part::Full => Record::Complete(tag, size),
         Part::Short(_) => Record::Malformed,
         Part::End => Record::Malformed,
         Part::Failed => Record::Failed,

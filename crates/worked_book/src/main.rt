@@ -21,7 +21,7 @@ mod year;
 fn main() {
     xylene::year();
     weighed::list();
-    year::whole();
+    year::all();
     sorting::year();
     declines::turns();
     declines::closed();

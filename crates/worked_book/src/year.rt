@@ -123,7 +123,7 @@ fn emitted(mut b: Book) -> Book
     desk::vapour(b, 3, 1, 2, RECEIVED, FILLING, DISPENSED, FUELING)
 }
 
-pub(crate) fn whole() {
+pub(crate) fn all() {
     line::text(b"a year\n");
     let mut b = opened();
     reports(b);

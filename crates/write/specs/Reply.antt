@@ -7,10 +7,10 @@ use mathlib.Core.List.{List}
 use lib.ListN.{length, take}
 use Rattle.amounts.specs.Decline.{valueOr}
 use Rattle.records.specs.Records.{recordOf}
-use Rattle.records.specs.Whole.{recordOn}
-use Rattle.streams.specs.Record.{isWhole}
+use Rattle.records.specs.Batch.{recordOn}
+use Rattle.streams.specs.Record.{isComplete}
 use Rattle.streams.specs.declared.record.Record.{Record}
-use Rattle.streams.specs.declared.record.Record.the-variants.{Whole, Malformed, End, Failed}
+use Rattle.streams.specs.declared.record.Record.the-variants.{Complete, Malformed, End, Failed}
 use Rattle.writer.specs.Page.{Page, pageOf, Sound}
 use Rattle.writer.specs.declared.draft.Draft.{Draft}
 use Rattle.writer.specs.declared.page.Taken.{Taken}
@@ -21,13 +21,13 @@ closedState filled d read = record { filled = filled; draft = d; «is_open» = f
 
 -- what a record that was read makes of a page
 abbrev pub madeBy : Page → List ℕ → Record → Page
-madeBy p space (Whole tag size) = valueOr p (recordOn p (recordOf tag (take size space)))
+madeBy p space (Complete tag size) = valueOr p (recordOn p (recordOf tag (take size space)))
 madeBy p space Malformed = p
 madeBy p space End = p
 madeBy p space Failed = p
 
 abbrev pub couldRead : Record → Bool
-couldRead (Whole tag size) = true
+couldRead (Complete tag size) = true
 couldRead Malformed = true
 couldRead End = true
 couldRead Failed = false
@@ -52,4 +52,4 @@ pub record Replied (given after : List ℕ) (filled : ℕ) (d : Draft) (space : 
   pub kept : Kept given after t
   pub made : pageOf after (t .filled) (t .draft) ≡ madeBy (pageOf given filled d) space r
   pub read : t .«is_read» ≡ couldRead r
-  pub whole : t .«is_open» ≡ true → isWhole r ≡ true
+  pub complete : t .«is_open» ≡ true → isComplete r ≡ true

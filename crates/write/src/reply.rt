@@ -80,7 +80,7 @@ pub(crate) fn answer(
     ensures { λ t. ⌜ Replied (now (buffer .entry)) (now (buffer .exit)) filled d (now (space .entry)) r t ⌝ }
 {
     match r {
-        Record::Whole(tag, size) => {
+        Record::Complete(tag, size) => {
             let taken = call::take_record(buffer, filled, d, tag, &space[..size]);
             told(place, taken)
         }

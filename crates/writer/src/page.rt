@@ -46,8 +46,8 @@ fn put_block(
     ensures { λ r. ⌜ r ≡ filled + 512 ⌝ }
     ensures { λ _. ⌜ now (buffer .exit) ≡ placed (now (buffer .entry)) filled (blockOf kind count number (bodyOf block)) ⌝ }
 {
-    let whole = frame::framed(block, kind, count, number as u16);
-    bytes::put(buffer, filled, &whole);
+    let made = frame::framed(block, kind, count, number as u16);
+    bytes::put(buffer, filled, &made);
     filled + BLOCK_SIZE
 }
 
@@ -74,9 +74,9 @@ pub fn take_set_up(
             draft: d,
         };
     }
-    let mut whole = [0; 512];
-    bytes::put(&mut whole, 8, body);
-    let end = put_block(buffer, filled, whole, kind, count, t.blocks);
+    let mut framed = [0; 512];
+    bytes::put(&mut framed, 8, body);
+    let end = put_block(buffer, filled, framed, kind, count, t.blocks);
     let tally = told.tally;
     let block = d.block;
     Taken {

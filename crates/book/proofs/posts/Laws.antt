@@ -175,8 +175,8 @@ part-fits size i n long h g =
 pub run-of-one : (u : Setup) (y : Year) (s : List ℕ) → takenTo u y (partOf (length s) s) 1 ≡ postOn u y s
 run-of-one u y s =
     let posts = partOf (length s) s in
-    let whole : posts 0 ≡ s = ap (λ (n : ℕ). take (length s) (drop n s)) (zero-mul (length s)) ∙ take-length s in
-    taken-next u y posts 0 y (none-yet u y posts) ∙ ap (postOn u y) whole
+    let itself : posts 0 ≡ s = ap (λ (n : ℕ). take (length s) (drop n s)) (zero-mul (length s)) ∙ take-length s in
+    taken-next u y posts 0 y (none-yet u y posts) ∙ ap (postOn u y) itself
 
 -- ---- a turn of a run
 

@@ -11,10 +11,10 @@ use Rattle.layout.specs.declared.verdict.Verdict.the-variants.{Accepted, Declin
 use Rattle.book.specs.Answer.{outcome}
 use Rattle.book.specs.Block.{blockOn}
 use Rattle.book.specs.Site.{freshBook}
-use Rattle.book.specs.Whole.{partsIn, Outcome, read, refused, onward, readAll, ended}
+use Rattle.book.specs.Blocks.{partsIn, Outcome, read, refused, onward, readAll, ended}
 use Rattle.book.specs.declared.answer.Answered.{Answered}
 use Rattle.book.specs.declared.site.Book.{Book}
-use Rattle.book.specs.declared.whole.WholeRead.{WholeRead}
+use Rattle.book.specs.declared.blocks.BlocksRead.{BlocksRead}
 use Rattle.book.proofs.answer.Laws.{was-accepted, was-declined}
 use Rattle.book.proofs.block.Laws.{block-more}
 use Rattle.text.specs.Line.{refusedText}
@@ -76,14 +76,14 @@ one-number : (v : Verdict) (d e : Decline) → v ≡ Declined d → v ≡ Declin
 one-number v d e p q = cc
 
 -- what a whole journal ended in tells its text
-accepted-text : (o : Outcome) (x : WholeRead) → x ≡ ended o → x .verdict ≡ Accepted → returnText (x .book) ≡ outcomeText o
-accepted-text (read b) x e v = ap (λ (y : WholeRead). returnText (y .book)) e
-accepted-text (refused place n) x e v = absurd (not-both (x .verdict) (record { number = n }) v (ap (λ (y : WholeRead). y .verdict) e))
+accepted-text : (o : Outcome) (x : BlocksRead) → x ≡ ended o → x .verdict ≡ Accepted → returnText (x .book) ≡ outcomeText o
+accepted-text (read b) x e v = ap (λ (y : BlocksRead). returnText (y .book)) e
+accepted-text (refused place n) x e v = absurd (not-both (x .verdict) (record { number = n }) v (ap (λ (y : BlocksRead). y .verdict) e))
 
-declined-text : (o : Outcome) (x : WholeRead) (d : Decline) → x ≡ ended o → x .verdict ≡ Declined d → refusedText (x .place) (d .number) ≡ outcomeText o
-declined-text (read b) x d e v = absurd (not-both (x .verdict) d (ap (λ (y : WholeRead). y .verdict) e) v)
+declined-text : (o : Outcome) (x : BlocksRead) (d : Decline) → x ≡ ended o → x .verdict ≡ Declined d → refusedText (x .place) (d .number) ≡ outcomeText o
+declined-text (read b) x d e v = absurd (not-both (x .verdict) d (ap (λ (y : BlocksRead). y .verdict) e) v)
 declined-text (refused place n) x d e v =
-    ap₂ refusedText (ap (λ (y : WholeRead). y .place) e) (one-number (x .verdict) d (record { number = n }) v (ap (λ (y : WholeRead). y .verdict) e))
+    ap₂ refusedText (ap (λ (y : BlocksRead). y .place) e) (one-number (x .verdict) d (record { number = n }) v (ap (λ (y : BlocksRead). y .verdict) e))
 
 module _ (l m : List ℕ) (w : Written) where
   tries-as : (a b : List ℕ) → a ≡ b → Tries 1336 l 0 a m w → Tries 1336 l 0 b m w
@@ -96,9 +96,9 @@ module _ (l m : List ℕ) (w : Written) where
     pub prints-refused : (d : Decline) (place : ℕ) → r .stopped ≡ By d → place ≡ r .book .blocks → Tries 1336 l 0 (refusedText place (d .number)) m w → Tries 1336 l 0 (textOf r) m w
     prints-refused d place e k t = tries-as _ _ (ap (λ (x : ℕ). refusedText x (d .number)) k ∙ sym (ap (λ (x : Stopped). textWhile x (r .book)) e)) t
 
-  module _ (s : List ℕ) (x : WholeRead) (e : x ≡ ended (readAll freshBook 0 (partsIn s))) where
-    pub whole-return : x .verdict ≡ Accepted → Tries 1336 l 0 (returnText (x .book)) m w → Tries 1336 l 0 (printedOf s) m w
-    whole-return v t = tries-as _ _ (accepted-text (readAll freshBook 0 (partsIn s)) x e v) t
+  module _ (s : List ℕ) (x : BlocksRead) (e : x ≡ ended (readAll freshBook 0 (partsIn s))) where
+    pub journal-return : x .verdict ≡ Accepted → Tries 1336 l 0 (returnText (x .book)) m w → Tries 1336 l 0 (printedOf s) m w
+    journal-return v t = tries-as _ _ (accepted-text (readAll freshBook 0 (partsIn s)) x e v) t
 
-    pub whole-refused : (d : Decline) → x .verdict ≡ Declined d → Tries 1336 l 0 (refusedText (x .place) (d .number)) m w → Tries 1336 l 0 (printedOf s) m w
-    whole-refused d v t = tries-as _ _ (declined-text (readAll freshBook 0 (partsIn s)) x d e v) t
+    pub journal-refused : (d : Decline) → x .verdict ≡ Declined d → Tries 1336 l 0 (refusedText (x .place) (d .number)) m w → Tries 1336 l 0 (printedOf s) m w
+    journal-refused d v t = tries-as _ _ (declined-text (readAll freshBook 0 (partsIn s)) x d e v) t

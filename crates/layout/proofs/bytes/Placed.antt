@@ -32,6 +32,6 @@ module _ (l : List ℕ) (at : ℕ) (a m : List ℕ) (i : ℕ) (e : m ≡ paste l
   pub paste-more : at + i < length l → i < length a → set m (at + i) (getD a i 0) ≡ paste l at a (i + 1)
   paste-more h k = rw (e, add-one i) (paste-suc l at a i 0 h k)
 
-  pub paste-whole : i ≡ length a → at + length a ≤ length l → m ≡ placed l at a
+  pub paste-all : i ≡ length a → at + length a ≤ length l → m ≡ placed l at a
   unfolding written
-  paste-whole k h = e ∙ ap (paste l at a) k ∙ ap (λ (x : List ℕ). take at l ++ x ++ drop (at + length a) l) (take-length a) ∙ sym (placed-fits l at a h)
+  paste-all k h = e ∙ ap (paste l at a) k ∙ ap (λ (x : List ℕ). take at l ++ x ++ drop (at + length a) l) (take-length a) ∙ sym (placed-fits l at a h)

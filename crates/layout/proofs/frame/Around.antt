@@ -44,14 +44,14 @@ pub framed-is : (block : List ℕ) (kind count number a b p q w z : ℕ) (m : Li
 unfolding blockOf summed littleEndian
 framed-is block kind count number a b p q w z m long small is a= b= p= q= w= z= =
     let head : List ℕ = 80 ∷ 82 ∷ 84 ∷ 82 ∷ kind ∷ count ∷ a ∷ b ∷ [] in
-    let whole : List ℕ = headOf kind count number ++ bodyOf block in
+    let front : List ℕ = headOf kind count number ++ bodyOf block in
     let named : head ≡ headOf kind count number = ap₂ (λ (x y : ℕ). 80 ∷ 82 ∷ 84 ∷ 82 ∷ kind ∷ count ∷ x ∷ y ∷ []) a= (b= ∙ two-bytes number small) in
-    let first : take 508 m ≡ whole = ap (take 508) is ∙ first-part block long head refl ∙ ap (λ (x : List ℕ). x ++ bodyOf block) named in
-    let plain : sumsOf m .plain ≡ plainSum whole = ap plainSum first in
-    let weighted : sumsOf m .weighted ≡ weightedSum whole = ap weightedSum first in
-    let lows : p ∷ q ∷ w ∷ z ∷ [] ≡ littleEndian 2 (plainSum whole) ++ littleEndian 2 (weightedSum whole) = sums-are p q w z (plainSum whole) (weightedSum whole)
+    let first : take 508 m ≡ front = ap (take 508) is ∙ first-part block long head refl ∙ ap (λ (x : List ℕ). x ++ bodyOf block) named in
+    let plain : sumsOf m .plain ≡ plainSum front = ap plainSum first in
+    let weighted : sumsOf m .weighted ≡ weightedSum front = ap weightedSum first in
+    let lows : p ∷ q ∷ w ∷ z ∷ [] ≡ littleEndian 2 (plainSum front) ++ littleEndian 2 (weightedSum front) = sums-are p q w z (plainSum front) (weightedSum front)
     (p= ∙ ap (λ (x : ℕ). x % 256) plain) (q= ∙ ap (λ (x : ℕ). x / 256) plain) (w= ∙ ap (λ (x : ℕ). x % 256) weighted) (z= ∙ ap (λ (x : ℕ). x / 256) weighted)
-    (plain-small whole) (weighted-small whole) in
+    (plain-small front) (weighted-small front) in
     ap (λ (x : List ℕ). placed x 508 (p ∷ q ∷ w ∷ z ∷ [])) is
     ∙ tailed block long head refl (p ∷ q ∷ w ∷ z ∷ []) refl
     ∙ ap₂ (λ (x y : List ℕ). (x ++ bodyOf block) ++ y) named lows

@@ -8,8 +8,8 @@ use Rattle.layout.specs.declared.verdict.Verdict.{Verdict}
 use Rattle.layout.specs.declared.verdict.Verdict.the-variants.{Declined}
 use Rattle.writer.specs.Page.{Page, setUpOn, postOn, ended, Sound, Answers}
 use Rattle.records.specs.Records.{recordOf, tagOf, spanOf, bytesOf, firstOf}
-use Rattle.records.specs.Whole.{recordOn}
-use Rattle.records.proofs.record.Laws.{set-up-is, post-is, end-is, none-is, first-short, first-whole}
+use Rattle.records.specs.Batch.{recordOn}
+use Rattle.records.proofs.record.Laws.{set-up-is, post-is, end-is, none-is, first-short, first-complete}
 
 module _ (p : Page) (tag : ℕ) (s : List ℕ) where
   pub on-set-up : (kind count : ℕ) (body : List ℕ) → tag ≡ 83 → kind ≡ getD s 0 0 → count ≡ getD s 1 0 → body ≡ drop 2 s
@@ -31,8 +31,8 @@ module _ (p : Page) (s : List ℕ) where
   pub on-short : length s < spanOf s → recordOn p (firstOf s) ≡ declined 255
   on-short h = ap (recordOn p) (first-short s h)
 
-  pub on-whole : (span : ℕ) (bytes : List ℕ) → span ≡ spanOf s → span ≤ length s → bytes ≡ bytesOf s → recordOn p (firstOf s) ≡ recordOn p (recordOf (tagOf s) bytes)
-  on-whole span bytes e h b = ap (recordOn p) (first-whole s (subst (λ (n : ℕ). n ≤ length s) e h)) ∙ ap (λ (l : List ℕ). recordOn p (recordOf (tagOf s) l)) (sym b)
+  pub on-complete : (span : ℕ) (bytes : List ℕ) → span ≡ spanOf s → span ≤ length s → bytes ≡ bytesOf s → recordOn p (firstOf s) ≡ recordOn p (recordOf (tagOf s) bytes)
+  on-complete span bytes e h b = ap (recordOn p) (first-complete s (subst (λ (n : ℕ). n ≤ length s) e h)) ∙ ap (λ (l : List ℕ). recordOn p (recordOf (tagOf s) l)) (sym b)
 
 -- ---- what a page answers
 

@@ -24,8 +24,8 @@ use Rattle.writer.specs.declared.tally.Tally.{Tally}
 use Rattle.layout.proofs.bytes.Placed.{placed-long, placed-out}
 use Rattle.records.specs.Counting.{recordCounted}
 use Rattle.records.specs.Records.{Recorded, call, malformed, recordOf, tagOf, spanOf, bytesOf, firstOf}
-use Rattle.records.specs.Whole.{recordOn}
-use Rattle.records.proofs.record.Laws.{set-up-is, post-is, end-is, none-is, first-short, first-whole}
+use Rattle.records.specs.Batch.{recordOn}
+use Rattle.records.proofs.record.Laws.{set-up-is, post-is, end-is, none-is, first-short, first-complete}
 
 -- ---- a record on a tally
 
@@ -49,10 +49,10 @@ module _ (room : ℕ) (t : Tally) (s : List ℕ) where
   pub count-short : length s < spanOf s → recordCounted room t (firstOf s) ≡ declined 255
   count-short h = ap (recordCounted room t) (first-short s h)
 
-  pub count-whole : (span : ℕ) (bytes : List ℕ) → span ≡ spanOf s → span ≤ length s → bytes ≡ bytesOf s
+  pub count-complete : (span : ℕ) (bytes : List ℕ) → span ≡ spanOf s → span ≤ length s → bytes ≡ bytesOf s
       → recordCounted room t (firstOf s) ≡ recordCounted room t (recordOf (tagOf s) bytes)
-  count-whole span bytes e h b =
-      ap (recordCounted room t) (first-whole s (subst (λ (n : ℕ). n ≤ length s) e h)) ∙ ap (λ (l : List ℕ). recordCounted room t (recordOf (tagOf s) l)) (sym b)
+  count-complete span bytes e h b =
+      ap (recordCounted room t) (first-complete s (subst (λ (n : ℕ). n ≤ length s) e h)) ∙ ap (λ (l : List ℕ). recordCounted room t (recordOf (tagOf s) l)) (sym b)
 
 pub counts-as : {room : ℕ} {t u : Tally} {a b : Answer Tally} {v : Verdict} → a ≡ b → Counts room t b v u → Counts room t a v u
 counts-as {room} {t} {u} {a} {b} {v} e h = subst (λ (x : Answer Tally). Counts room t x v u) (sym e) h

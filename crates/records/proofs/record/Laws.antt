@@ -33,9 +33,9 @@ pub first-short : (s : List ℕ) → length s < spanOf s → firstOf s ≡ malfo
 unfolding firstOf
 first-short s h = rw (lt-leb (spanOf s) (length s) h)
 
-pub first-whole : (s : List ℕ) → spanOf s ≤ length s → firstOf s ≡ recordOf (tagOf s) (bytesOf s)
+pub first-complete : (s : List ℕ) → spanOf s ≤ length s → firstOf s ≡ recordOf (tagOf s) (bytesOf s)
 unfolding firstOf
-first-whole s h = rw (le-leb (spanOf s) (length s) h)
+first-complete s h = rw (le-leb (spanOf s) (length s) h)
 
 pub bytes-are : (s : List ℕ) → part 3 (spanOf s) s ≡ bytesOf s
 bytes-are s = let e : spanOf s - 3 ≡ le 2 (drop 1 s) = omega arith in ap (λ (n : ℕ). take n (drop 3 s)) e

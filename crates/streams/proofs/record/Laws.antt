@@ -9,7 +9,7 @@ use Rattle.streams.specs.Input.{Falls}
 use Rattle.streams.specs.declared.input.Input.{Input}
 use Rattle.streams.specs.declared.input.Part.{Part}
 use Rattle.streams.specs.declared.input.Part.the-variants.{Full}
-use Rattle.streams.specs.Record.{isWhole, Within, Follows}
+use Rattle.streams.specs.Record.{isComplete, Within, Follows}
 use Rattle.streams.specs.declared.record.Found.{Found}
 
 -- a part that was lent comes back as long as it was
@@ -21,7 +21,7 @@ pub full-falls : (before after : ℕ) (p : Part) → p ≡ Full → Falls before
 full-falls before after p e f = subst (Falls before after) e f
 
 -- what is no whole record asks for nothing more
-pub no-call : (from : Input) (given after : List ℕ) (n : Found) → length after ≡ length given → isWhole (n .«record») ≡ false
+pub no-call : (from : Input) (given after : List ℕ) (n : Found) → length after ≡ length given → isComplete (n .«record») ≡ false
     → Within (length given) (n .«record») → Follows from given after n
 no-call from given after n same e w = record { same-length = same; within = w; falls = λ t. absurd (true≢false (sym t ∙ e)) }
 

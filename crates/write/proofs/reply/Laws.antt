@@ -4,7 +4,7 @@ use mathlib.Core.Bool.{Bool, true, true≢false}
 use mathlib.Core.List.{List}
 use Prim.Native.Nat.{ℕ}
 use lib.ListN.{length}
-use Rattle.streams.specs.Record.{isWhole}
+use Rattle.streams.specs.Record.{isComplete}
 use Rattle.streams.specs.declared.record.Record.{Record}
 use Rattle.writer.specs.Page.{Page, pageOf, Sound}
 use Rattle.writer.specs.declared.draft.Draft.{Draft}
@@ -19,10 +19,10 @@ closed-replied given filled d read space r t e h m c =
       kept = record { sound = subst (λ (x : State). Sound (pageOf given (x .filled) (x .draft))) (sym e) h; size = refl };
       made = ap (λ (x : State). pageOf given (x .filled) (x .draft)) e ∙ m;
       read = ap (λ (x : State). x .«is_read») e ∙ c;
-      whole = λ f. absurd (true≢false (sym f ∙ ap (λ (x : State). x .«is_open») e));
+      complete = λ f. absurd (true≢false (sym f ∙ ap (λ (x : State). x .«is_open») e));
     }
 
-pub told-replied : (given after : List ℕ) (filled : ℕ) (d : Draft) (space : List ℕ) (taken : Taken) (r : Record) (t : State) → isWhole r ≡ true → couldRead r ≡ true
+pub told-replied : (given after : List ℕ) (filled : ℕ) (d : Draft) (space : List ℕ) (taken : Taken) (r : Record) (t : State) → isComplete r ≡ true → couldRead r ≡ true
     → pageOf after (taken .filled) (taken .draft) ≡ madeBy (pageOf given filled d) space r → Told taken t → Sound (pageOf after (taken .filled) (taken .draft))
     → length after ≡ length given → Replied given after filled d space r t
 told-replied given after filled d space taken r t w c m told h size =
@@ -37,5 +37,5 @@ told-replied given after filled d space taken r t w c m told h size =
       made =
           ap (λ (n : ℕ). pageOf after n (t .draft)) (told .filled) ∙ ap (λ (x : Draft). pageOf after (taken .filled) x) (told .draft) ∙ m;
       read = told .read ∙ sym c;
-      whole = λ _. w;
+      complete = λ _. w;
     }

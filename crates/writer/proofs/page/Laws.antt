@@ -113,13 +113,13 @@ module _ (p : Page) (sound : Sound p) (kind count : ℕ) (body : List ℕ) where
         ap (λ (a : Answer SetupPart). onTaken a (λ x. checked (setUpChecks room t x count body) (withPart p kind x count body))) (set-up-part .1)
         ∙ pass-taken rows (withPart p kind part count body) set-up-passes
 
-    pub set-up-answers : (whole bytes : List ℕ) (end : ℕ) → whole ≡ placed (replicate 512 0) 8 body → end ≡ p .filled + 512
-        → bytes ≡ placed (p .bytes) (p .filled) (blockOf kind count (t .blocks) (bodyOf whole)) → length bytes ≡ length (p .bytes)
+    pub set-up-answers : (made bytes : List ℕ) (end : ℕ) → made ≡ placed (replicate 512 0) 8 body → end ≡ p .filled + 512
+        → bytes ≡ placed (p .bytes) (p .filled) (blockOf kind count (t .blocks) (bodyOf made)) → length bytes ≡ length (p .bytes)
         → Answers p (setUpOn p kind count body) Accepted (pageOf bytes end (draftOf q (p .draft .block)))
     unfolding tally.setUp
-    set-up-answers whole bytes end w e b size =
+    set-up-answers made bytes end w e b size =
         let block = blockOf kind count (t .blocks) body in
-        let same : bodyOf whole ≡ body = ap bodyOf w ∙ body-in body set-up-long in
+        let same : bodyOf made ≡ body = ap bodyOf w ∙ body-in body set-up-long in
         let is : bytes ≡ placed (p .bytes) (p .filled) block = b ∙ ap (λ (x : List ℕ). placed (p .bytes) (p .filled) (blockOf kind count (t .blocks) x)) same in
         let blocks : q .blocks ≡ t .blocks + 1 = ap (λ (x : Tally). x .blocks) set-up-is in
         subst (λ (n : ℕ). Answers p (setUpOn p kind count body) Accepted (pageOf bytes n (draftOf q (p .draft .block)))) (sym e)

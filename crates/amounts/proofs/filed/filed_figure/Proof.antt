@@ -19,8 +19,8 @@ facts c = subst (λ (k : ℕ). Step (a c) k) (sym (c .step-of .ensures)) (step-i
 step-of-requires : tie.Need-step-of-requires
 step-of-requires c κs = search needs
 
-div-whole : tie.Need-div-whole
-div-whole c = facts c .some
+div-steps : tie.Need-div-steps
+div-steps c = facts c .some
 
 rem-if1 : tie.Need-rem-if1
 rem-if1 c = facts c .some
@@ -48,7 +48,7 @@ filed-figure-spec =
     tie.close
     (tie.spec
     step-of-requires
-    div-whole
+    div-steps
     rem-if1
     mul-result
     add-result

@@ -4,7 +4,7 @@ use native.Mathlib.Omega.{arith}
 use lib.ListN.{length, length-set}
 use lib.Seq.{paste, paste-zero}
 use denote.Ref.{now}
-use Rattle.layout.proofs.bytes.Placed.{placed-out, paste-more, paste-whole}
+use Rattle.layout.proofs.bytes.Placed.{placed-out, paste-more, paste-all}
 use Rattle.layout.proofs.bytes.put.Statement.{statement}
 use Rattle.layout.proofs.bytes.put.Tie as tie
 
@@ -50,7 +50,7 @@ same-length : tie.Need-same-length Inv-loop μ-loop
 same-length c = c .before .loop .inv .2
 
 returns-3 : tie.Need-returns-3 Inv-loop μ-loop
-returns-3 c = let z = c .before in let a = z .before .before .before .args in paste-whole (now (a .buffer)) (a .at) (now (a .s)) _ (z .loop .i) (z .loop .inv .1) (omega arith) (omega arith)
+returns-3 c = let z = c .before in let a = z .before .before .before .args in paste-all (now (a .buffer)) (a .at) (now (a .s)) _ (z .loop .i) (z .loop .inv .1) (omega arith) (omega arith)
 
 pub put-spec : {M : Type 1} → statement M
 put-spec =

@@ -1,6 +1,6 @@
 use mathlib.Core.Path.{sym, _∙_}
 use denote.Ref.{now}
-use Rattle.records.specs.Whole.{writtenIn}
+use Rattle.records.specs.Batch.{writtenIn}
 use Rattle.prtr.proofs.write.Laws.{of-written, of-stopped}
 use borrow.Author.Needs.{needs}
 use Rattle.prtr.proofs.write.prtr_write.Statement.{statement}

@@ -3,7 +3,7 @@ use Prim.Native.Nat.{ℕ, _<_}
 use lib.ListN.{length}
 use denote.Ref.{now}
 use Rattle.writer.specs.Page.{Page, pageOf}
-use Rattle.records.proofs.call.Laws.{on-short, on-whole, answers-as, answers-none}
+use Rattle.records.proofs.call.Laws.{on-short, on-complete, answers-as, answers-none}
 use borrow.Author.Needs.{needs}
 use Rattle.records.proofs.call.take_first.Statement.{statement}
 use Rattle.records.proofs.call.take_first.Tie as tie
@@ -40,7 +40,7 @@ returns-2 c =
     let i = b .before .before .before in
     let n = i .before in
     let t = n .before .before .before in
-    answers-as (on-whole (page t) (now (t .args .s)) (n .span-of .result) (now (b .bytes-of .result)) (n .span-of .ensures) (i .if1 .left) (b .bytes-of .ensures)) (k .take-record .ensures)
+    answers-as (on-complete (page t) (now (t .args .s)) (n .span-of .result) (now (b .bytes-of .result)) (n .span-of .ensures) (i .if1 .left) (b .bytes-of .ensures)) (k .take-record .ensures)
 
 pub take-first-spec : {M : Type 1} → statement M
 take-first-spec =

@@ -2,7 +2,7 @@ use mathlib.Core.Path.{subst}
 use Prim.Native.Nat.{ℕ, _<_}
 use lib.ListN.{length}
 use denote.Ref.{now}
-use Rattle.records.proofs.counting.Laws.{count-short, count-whole, counts-as, counts-none}
+use Rattle.records.proofs.counting.Laws.{count-short, count-complete, counts-as, counts-none}
 use borrow.Author.Needs.{needs}
 use Rattle.records.proofs.counting.count_first.Statement.{statement}
 use Rattle.records.proofs.counting.count_first.Tie as tie
@@ -33,7 +33,7 @@ returns-2 c =
     let i = b .before .before in
     let n = i .before in
     let a = n .before .before .args in
-    counts-as (count-whole (a .room) (a .t) (now (a .s)) (n .span-of .result) (now (b .bytes-of .result)) (n .span-of .ensures) (i .if1 .left) (b .bytes-of .ensures)) (c .count-record .ensures)
+    counts-as (count-complete (a .room) (a .t) (now (a .s)) (n .span-of .result) (now (b .bytes-of .result)) (n .span-of .ensures) (i .if1 .left) (b .bytes-of .ensures)) (c .count-record .ensures)
 
 pub count-first-spec : {M : Type 1} → statement M
 count-first-spec =

@@ -4,7 +4,7 @@ use Prim.Native.Nat.{_≤_}
 use native.Mathlib.Omega.{arith}
 use lib.ListN.{length, length-take}
 use borrow.Author.Needs.{needs}
-use Rattle.streams.specs.Record.{isWhole, Within}
+use Rattle.streams.specs.Record.{isComplete, Within}
 use Rattle.replay.proofs.call.answer.Statement.{statement}
 use Rattle.replay.proofs.call.answer.Tie as tie
 
@@ -45,7 +45,7 @@ closed-requires-2 : tie.Need-closed-requires-2
 closed-requires-2 c κs = search needs
 
 returns : tie.Need-returns
-returns c = (c .call .ensures, λ e. ap isWhole (c .before .before .before .r .given .1))
+returns c = (c .call .ensures, λ e. ap isComplete (c .before .before .before .r .given .1))
 
 returns-2 : tie.Need-returns-2
 returns-2 c = (c .malformed .ensures .0, λ e. absurd (true≢false (sym e ∙ c .malformed .ensures .1)))

@@ -35,7 +35,7 @@ abbrev passed : tie.After-source Inv-loop μ-loop → tie.After-answer Inv-loop 
 passed c = c .before .before .before .before .before .before
 
 falls : (c : tie.After-source Inv-loop μ-loop) → passed c .before .before .before .before .next .result .input .left < at (passed c) .loop .source .left
-falls c = let a = passed c in a .before .before .before .before .next .ensures .falls (a .answer .ensures .whole (not-false (a .answer .result .«is_open») (c .before .before .if1 .left)))
+falls c = let a = passed c in a .before .before .before .before .next .ensures .falls (a .answer .ensures .complete (not-false (a .answer .result .«is_open») (c .before .before .if1 .left)))
 
 large-buffer-requires : tie.Need-large-buffer-requires Inv-loop μ-loop
 large-buffer-requires c κs = search needs

@@ -4,7 +4,7 @@ use Prim.Native.Nat.{_≤_}
 use native.Mathlib.Omega.{arith}
 use denote.Ref.{now}
 use lib.ListN.{length, length-take}
-use Rattle.streams.specs.Record.{isWhole, Within}
+use Rattle.streams.specs.Record.{isComplete, Within}
 use Rattle.streams.specs.declared.record.Record.{Record}
 use Rattle.writer.specs.Page.{Page, pageOf}
 use Rattle.write.specs.Reply.{madeBy, couldRead}
@@ -59,7 +59,7 @@ returns c =
     let t = g .before .before .before .before in
     let p = pageOf (now (t .args .buffer)) (t .args .filled) (t .args .d) in
     told-replied (now (t .args .buffer)) (k .take-record .last .0) (t .args .filled) (t .args .d) (now (t .args .space)) (k .take-record .result) (t .args .r) (c .told .result)
-    (ap isWhole (g .r .given .1)) (ap couldRead (g .r .given .1)) (k .take-record .ensures .after ∙ sym (ap (madeBy p (now (t .args .space))) (g .r .given .1))) (c .told .ensures)
+    (ap isComplete (g .r .given .1)) (ap couldRead (g .r .given .1)) (k .take-record .ensures .after ∙ sym (ap (madeBy p (now (t .args .space))) (g .r .given .1))) (c .told .ensures)
     (k .take-record .ensures .sound) (k .take-record .ensures .size)
 
 returns-2 : tie.Need-returns-2

@@ -6,8 +6,8 @@ use Rattle.amounts.specs.Decline.{Answer, taken, declined}
 use Rattle.writer.specs.Page.{Page, freshPage, ended}
 use Rattle.writer.specs.Calls.{Call, answerTo, run, accepted}
 use Rattle.records.specs.Records.{Recorded, call, malformed, recordsIn}
-use Rattle.records.specs.declared.whole.WriteEnd.{WriteEnd}
-use Rattle.records.specs.declared.whole.WriteEnd.the-variants.{Written, Stopped}
+use Rattle.records.specs.declared.batch.WriteEnd.{WriteEnd}
+use Rattle.records.specs.declared.batch.WriteEnd.the-variants.{Written, Stopped}
 
 -- the number that stands for a malformed record; no decline has it
 abbrev pub malformedNumber : ℕ
@@ -19,7 +19,7 @@ recordOn p malformed = declined malformedNumber
 
 -- the page after the last record and an end, or the first record that is declined or malformed: its place from 0, and the number
 pub data Outcome : Type 0 where
-  whole : Page → Outcome
+  complete : Page → Outcome
   stopped : ℕ → ℕ → Outcome
 
 abbrev pub onward : Answer Page → ℕ → (Page → Outcome) → Outcome
@@ -28,7 +28,7 @@ onward (declined n) place next = stopped place n
 
 unfoldable pub writeAll : Page → ℕ → List Recorded → Outcome
 unfolding ended
-writeAll p place [] = whole (ended p)
+writeAll p place [] = complete (ended p)
 writeAll p place (r ∷ rest) = onward (recordOn p r) place (λ q. writeAll q (suc place) rest)
 
 -- the records of bytes, written into a lent buffer
@@ -45,19 +45,19 @@ callsOf (malformed ∷ rest) = []
 
 -- where records are written whole, none is malformed, each of their calls is accepted, and the page is theirs, once ended: what is claimed of a writer's calls
 -- holds of it
-abbrev pub WholeIsItsCalls : Type 0
-WholeIsItsCalls =
-    (lent s : List ℕ) (p : Page) → writtenIn lent s ≡ whole p
+abbrev pub BatchIsItsCalls : Type 0
+BatchIsItsCalls =
+    (lent s : List ℕ) (p : Page) → writtenIn lent s ≡ complete p
     → let calls = callsOf (recordsIn s) in
     (recordsIn s ≡ map call calls) × (accepted (freshPage lent) calls ≡ calls) × (p ≡ ended (run (freshPage lent) calls))
 
 -- ---- what the code returns for an outcome, and what it leaves in the buffer
 
 abbrev pub endOf : Outcome → WriteEnd
-endOf (whole p) = Written (p .filled)
+endOf (complete p) = Written (p .filled)
 endOf (stopped place n) = Stopped n place
 
 -- a stop leaves the buffer as it was lent
 abbrev pub leftIn : List ℕ → Outcome → List ℕ
-leftIn lent (whole p) = p .bytes
+leftIn lent (complete p) = p .bytes
 leftIn lent (stopped place n) = lent

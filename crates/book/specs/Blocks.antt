@@ -9,7 +9,7 @@ use Rattle.layout.specs.declared.verdict.Verdict.the-variants.{Accepted, Declin
 use Rattle.book.specs.Block.{blockOn}
 use Rattle.book.specs.Site.{freshBook}
 use Rattle.book.specs.declared.site.Book.{Book}
-use Rattle.book.specs.declared.whole.WholeRead.{WholeRead}
+use Rattle.book.specs.declared.blocks.BlocksRead.{BlocksRead}
 
 -- parts of 512 bytes, the last one perhaps shorter: "A last part shorter than 512 bytes is a block that decline 1 meets"; at most n parts
 unfoldable pub partsTo : ℕ → List ℕ → List (List ℕ)
@@ -34,6 +34,6 @@ readAll b place [] = read b
 readAll b place (s ∷ rest) = onward (blockOn b s) place (λ c. readAll c (suc place) rest)
 
 -- what the code returns for an outcome; a journal that is refused leaves no book
-abbrev pub ended : Outcome → WholeRead
+abbrev pub ended : Outcome → BlocksRead
 ended (read b) = record { verdict = Accepted; place = b .blocks; book = b }
 ended (refused place n) = record { verdict = Declined (record { number = n }); place = place; book = freshBook }

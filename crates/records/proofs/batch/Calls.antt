@@ -8,7 +8,7 @@ use Rattle.amounts.specs.Decline.{Answer, taken, declined, isTaken, valueOr}
 use Rattle.writer.specs.Calls.{Call, answerTo, after, keep, run, accepted}
 use Rattle.writer.specs.Page.{Page, freshPage, ended}
 use Rattle.records.specs.Records.{Recorded, call, malformed, recordsIn}
-use Rattle.records.specs.Whole.{Outcome, whole, onward, recordOn, writeAll, callsOf, WholeIsItsCalls}
+use Rattle.records.specs.Batch.{Outcome, complete, onward, recordOn, writeAll, callsOf, BatchIsItsCalls}
 
 -- what the page after records is, and that each of their calls is accepted
 abbrev Theirs : Page → Page → List Call → Type 0
@@ -25,11 +25,11 @@ one-more p q r c calls e h =
     )
 
 -- an answer that leads on to a page was taken
-led-on : (a : Answer Page) (place : ℕ) (next : Page → Outcome) (q : Page) → onward a place next ≡ whole q → (r : Page) × (a ≡ taken r) × (next r ≡ whole q)
+led-on : (a : Answer Page) (place : ℕ) (next : Page → Outcome) (q : Page) → onward a place next ≡ complete q → (r : Page) × (a ≡ taken r) × (next r ≡ complete q)
 led-on (taken r) place next q e = (r, refl, e)
 led-on (declined n) place next q e = let z : _≡_ {A = ℕ} 0 1 = cc in absurd (omega arith)
 
-calls-are : (p q : Page) (place : ℕ) (records : List Recorded) → writeAll p place records ≡ whole q → Theirs p q (callsOf records)
+calls-are : (p q : Page) (place : ℕ) (records : List Recorded) → writeAll p place records ≡ complete q → Theirs p q (callsOf records)
 unfolding writeAll callsOf accepted run
 calls-are p q place [] e = let is : q ≡ ended p = cc in (refl, is)
 calls-are p q place (call c ∷ rest) e =
@@ -38,7 +38,7 @@ calls-are p q place (call c ∷ rest) e =
 calls-are p q place (malformed ∷ rest) e = let z : _≡_ {A = ℕ} 0 1 = cc in absurd (omega arith)
 
 -- none of them is malformed
-all-calls : (p q : Page) (place : ℕ) (records : List Recorded) → writeAll p place records ≡ whole q → records ≡ map call (callsOf records)
+all-calls : (p q : Page) (place : ℕ) (records : List Recorded) → writeAll p place records ≡ complete q → records ≡ map call (callsOf records)
 unfolding writeAll callsOf
 all-calls p q place [] e = refl
 all-calls p q place (call c ∷ rest) e =
@@ -46,6 +46,6 @@ all-calls p q place (call c ∷ rest) e =
     ap (λ (l : List Recorded). call c ∷ l) (all-calls (h .0) q (suc place) rest (h .2))
 all-calls p q place (malformed ∷ rest) e = let z : _≡_ {A = ℕ} 0 1 = cc in absurd (omega arith)
 
-pub whole-is-its-calls : WholeIsItsCalls
-whole-is-its-calls lent s p e =
+pub batch-is-its-calls : BatchIsItsCalls
+batch-is-its-calls lent s p e =
     let h = calls-are (freshPage lent) p 0 (recordsIn s) e in (all-calls (freshPage lent) p 0 (recordsIn s) e, h .0, h .1)

@@ -9,9 +9,9 @@ use Rattle.layout.specs.declared.verdict.Verdict.the-variants.{Accepted}
 use Rattle.layout.proofs.bytes.Laws.{tail-is}
 use Rattle.records.specs.Records.{spanOf}
 use borrow.Author.Needs.{needs}
-use Rattle.records.proofs.whole.Laws.{Counting, counting-none, counting-within, counting-next, counting-stop, counting-end}
-use Rattle.records.proofs.whole.stop_in.Statement.{statement}
-use Rattle.records.proofs.whole.stop_in.Tie as tie
+use Rattle.records.proofs.batch.Laws.{Counting, counting-none, counting-within, counting-next, counting-stop, counting-end}
+use Rattle.records.proofs.batch.stop_in.Statement.{statement}
+use Rattle.records.proofs.batch.stop_in.Tie as tie
 
 abbrev Inv-loop : tie.InvT-loop
 Inv-loop records room t₀ place₀ at₀ t place at = Counting records room t place at

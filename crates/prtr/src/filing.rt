@@ -1,4 +1,4 @@
-// A whole journal in memory.
+// The return of a journal in memory.
 ghost use mathlib.Core.Path.{_≡_};
 ghost use Rattle.text.specs.Writing.{triedIn};
 ghost use Rattle.journal.specs.Reading.{printedOf};
@@ -12,7 +12,7 @@ pub extern "C" fn prtr_filing(journal: &[u8], out: &mut [u8]) -> usize
     ensures { λ r. ⌜ r ≡ lengthIn 1336 (now (out .entry)) (printedOf (now (journal .entry))) ⌝ }
     ensures { λ _. ⌜ now (out .exit) ≡ triedIn 1336 (now (out .entry)) 0 (printedOf (now (journal .entry))) ⌝ }
 {
-    match reading::print_whole(journal, out) {
+    match reading::print_journal(journal, out) {
         Written::At(n) => n,
         Written::NoRoom => 0,
     }

@@ -16,16 +16,16 @@ use Rattle.layout.proofs.frame.Laws.{Framed, held-framed, number-small}
 use Rattle.book.specs.Block.{blockOn}
 use Rattle.book.specs.Site.{Sound, bookWith, freshYear}
 use Rattle.book.specs.Steps.{yearWith}
-use Rattle.book.specs.Whole.{ended}
+use Rattle.book.specs.Blocks.{ended}
 use Rattle.book.specs.declared.site.Book.{Book}
 use Rattle.book.specs.declared.site.Year.{Year}
-use Rattle.book.specs.declared.whole.WholeRead.{WholeRead}
+use Rattle.book.specs.declared.blocks.BlocksRead.{BlocksRead}
 use Rattle.book.proofs.block.Laws.{not-framed}
 use Rattle.book.proofs.site.Laws.{sound-fresh}
-use Rattle.book.proofs.whole.Laws.{Upto, upto-none, upto-next, upto-stop, upto-all, end-after, end-inside, posts-refused, posts-entered, setup-refused, setup-entered}
+use Rattle.book.proofs.blocks.Laws.{Upto, upto-none, upto-next, upto-stop, upto-all, end-after, end-inside, posts-refused, posts-entered, setup-refused, setup-entered}
 use borrow.Author.Needs.{needs}
-use Rattle.book.proofs.whole.take_whole.Statement.{statement}
-use Rattle.book.proofs.whole.take_whole.Tie as tie
+use Rattle.book.proofs.blocks.take_blocks.Statement.{statement}
+use Rattle.book.proofs.blocks.take_blocks.Tie as tie
 
 abbrev Inv-loop : tie.InvT-loop
 Inv-loop journal setup₀ store₀ sums₀ handled₀ posts₀ closed₀ blocks₀ at₀ setup store sums handled posts closed blocks at =
@@ -250,10 +250,10 @@ returns-4 c =
     let l = t .before in
     let s = now (start l .args .journal) in
     let e = c .read-to .ensures in
-    (e ∙ ap ended (upto-all s (book l) (l .loop .at) (l .loop .inv) (omega (arith, t .loop-test))), subst (λ (r : WholeRead). Sound (r .book)) (sym e) (l .loop .inv .sound))
+    (e ∙ ap ended (upto-all s (book l) (l .loop .at) (l .loop .inv) (omega (arith, t .loop-test))), subst (λ (r : BlocksRead). Sound (r .book)) (sym e) (l .loop .inv .sound))
 
-pub take-whole-spec : {M : Type 1} → statement M
-take-whole-spec =
+pub take-blocks-spec : {M : Type 1} → statement M
+take-blocks-spec =
     tie.close
     (tie.spec
     Inv-loop

@@ -1,10 +1,10 @@
 use mathlib.Core.Path.{refl, sym, _∙_}
 use denote.Ref.{now}
-use Rattle.records.specs.Whole.{writtenIn}
-use Rattle.records.proofs.whole.Laws.{ends-stopped, ends-whole}
+use Rattle.records.specs.Batch.{writtenIn}
+use Rattle.records.proofs.batch.Laws.{ends-stopped, ends-complete}
 use borrow.Author.Needs.{needs}
-use Rattle.records.proofs.whole.write_records.Statement.{statement}
-use Rattle.records.proofs.whole.write_records.Tie as tie
+use Rattle.records.proofs.batch.write_records.Statement.{statement}
+use Rattle.records.proofs.batch.write_records.Tie as tie
 
 stop-in-requires : tie.Need-stop-in-requires
 stop-in-requires c κs = search needs
@@ -36,7 +36,7 @@ returns-2 c =
     let k = e .before .before in
     let a = k .before .before .before .args in
     let l = now (a .buffer) in
-    ends-whole l (writtenIn l (now (a .records))) (f .fill .result) (f .fill .last .1 .0) (sym (e .enum-told .given .1) ∙ k .stop-in .ensures l refl) (f .fill .ensures)
+    ends-complete l (writtenIn l (now (a .records))) (f .fill .result) (f .fill .last .1 .0) (sym (e .enum-told .given .1) ∙ k .stop-in .ensures l refl) (f .fill .ensures)
 
 pub write-records-spec : {M : Type 1} → statement M
 write-records-spec =

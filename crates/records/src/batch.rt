@@ -1,7 +1,7 @@
 // A list of records in memory, written as a journal: first each record is tried without writing, so that a stop leaves the buffer.
 ghost use mathlib.Core.Path.{_≡_};
 ghost use Rattle.records.specs.Counting.{StopsIn, Filled};
-ghost use Rattle.records.specs.Whole.{writtenIn, endOf, leftIn};
+ghost use Rattle.records.specs.Batch.{writtenIn, endOf, leftIn};
 use crate::call;
 use crate::counting;
 use crate::record;

@@ -3,7 +3,7 @@ ghost use mathlib.Core.Path.{_≡_};
 ghost use Prim.Native.Nat.{_+_, _≤_, min};
 ghost use Rattle.book.specs.Site.{freshBook, bookWith, Sound};
 ghost use Rattle.book.specs.Steps.{yearWith};
-ghost use Rattle.book.specs.Whole.{partsIn, readAll, read, refused, ended};
+ghost use Rattle.book.specs.Blocks.{partsIn, readAll, read, refused, ended};
 use crate::block::set_up_by;
 use crate::posts::run_body;
 use crate::site;
@@ -18,7 +18,7 @@ use plant::setup::Setup;
 
 // Accepted, with as many blocks as the journal has and the book after the last; or why a block was declined, with its place from 0 and a
 // fresh book.
-pub struct WholeRead {
+pub struct BlocksRead {
     pub verdict: Verdict,
     pub place: u32,
     pub book: Book,
@@ -35,11 +35,11 @@ fn part_end(at: usize, length: usize) -> usize
     at + 512
 }
 
-fn refused_at(place: u32, decline: Decline) -> WholeRead
+fn refused_at(place: u32, decline: Decline) -> BlocksRead
     ensures { λ r. ⌜ r ≡ ended (refused place (decline .number)) ⌝ }
     ensures { λ r. ⌜ Sound (r .book) ⌝ }
 {
-    WholeRead {
+    BlocksRead {
         verdict: Verdict::Declined(decline),
         place,
         book: site::fresh(),
@@ -54,10 +54,10 @@ fn read_to(
     posts: u32,
     closed: bool,
     blocks: u32,
-) -> WholeRead
+) -> BlocksRead
     ensures { λ r. ⌜ r ≡ ended (read (bookWith setup (yearWith store sums handled posts closed) blocks)) ⌝ }
 {
-    WholeRead {
+    BlocksRead {
         verdict: Verdict::Accepted,
         place: blocks,
         book: Book {
@@ -75,7 +75,7 @@ fn read_to(
 }
 
 // The blocks of a journal in turn, up to the first that is declined.
-pub fn take_whole(journal: &[u8]) -> WholeRead
+pub fn take_blocks(journal: &[u8]) -> BlocksRead
     ensures { λ r. ⌜ r ≡ ended (readAll freshBook 0 (partsIn (now (journal .entry)))) ⌝ }
     ensures { λ r. ⌜ Sound (r .book) ⌝ }
 {

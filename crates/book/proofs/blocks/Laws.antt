@@ -21,7 +21,7 @@ use Rattle.book.specs.Block.{setupBy, onSetup, onYear, blockOn}
 use Rattle.book.specs.Posts.{postsOn}
 use Rattle.book.specs.Site.{Sound, bookWith, freshBook}
 use Rattle.book.specs.Steps.{guarded, Ran}
-use Rattle.book.specs.Whole.{partsTo, partsIn, read, refused, onward, readAll}
+use Rattle.book.specs.Blocks.{partsTo, partsIn, read, refused, onward, readAll}
 use Rattle.book.specs.declared.site.Book.{Book}
 use Rattle.book.specs.declared.site.Year.{Year}
 use Rattle.book.proofs.block.Laws.{is-framed, block-more, block-sound}

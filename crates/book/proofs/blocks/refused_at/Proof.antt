@@ -2,8 +2,8 @@ use mathlib.Core.Path.{ap}
 use Rattle.layout.specs.declared.verdict.Verdict.the-variants.{Declined}
 use Rattle.book.specs.declared.site.Book.{Book}
 use borrow.Author.Needs.{needs}
-use Rattle.book.proofs.whole.refused_at.Statement.{statement}
-use Rattle.book.proofs.whole.refused_at.Tie as tie
+use Rattle.book.proofs.blocks.refused_at.Statement.{statement}
+use Rattle.book.proofs.blocks.refused_at.Tie as tie
 
 fresh-requires : tie.Need-fresh-requires
 fresh-requires c κs = search needs

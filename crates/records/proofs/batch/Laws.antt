@@ -20,9 +20,9 @@ use Rattle.writer.specs.declared.draft.Draft.{Draft}
 use Rattle.writer.specs.declared.tally.Tally.{Tally}
 use Rattle.records.specs.Counting.{recordCounted, stopOf, StopsIn, Filled}
 use Rattle.records.specs.Records.{Recorded, call, malformed, spanOf, firstOf, restOf, behind, recordsIn}
-use Rattle.records.specs.Whole.{Outcome, whole, stopped, onward, recordOn, writeAll, writtenIn, endOf, leftIn}
-use Rattle.records.specs.declared.whole.Stop.the-variants.{At, Nowhere}
-use Rattle.records.specs.declared.whole.WriteEnd.the-variants.{Written, Stopped}
+use Rattle.records.specs.Batch.{Outcome, complete, stopped, onward, recordOn, writeAll, writtenIn, endOf, leftIn}
+use Rattle.records.specs.declared.batch.Stop.the-variants.{At, Nowhere}
+use Rattle.records.specs.declared.batch.WriteEnd.the-variants.{Written, Stopped}
 use Rattle.records.proofs.counting.Laws.{Reached, page-declined, page-taken}
 use Rattle.records.proofs.record.Laws.{first-short, records-first, records-end}
 
@@ -34,7 +34,7 @@ unfolding writeAll
 write-first p place (call c) rest = refl
 write-first p place malformed rest = refl
 
-write-none : (p : Page) (place : ℕ) → writeAll p place [] ≡ whole (ended p)
+write-none : (p : Page) (place : ℕ) → writeAll p place [] ≡ complete (ended p)
 unfolding writeAll
 write-none p place = refl
 
@@ -52,7 +52,7 @@ module _ (s : List ℕ) (at : ℕ) (h : at < length s) (p : Page) (place : ℕ) 
   pub stops : (n : ℕ) → recordOn p (firstOf (drop at s)) ≡ declined n → writeAll p place (recordsIn (drop at s)) ≡ stopped place n
   stops n e = next-is ∙ ap (λ (a : Answer Page). onward a place (λ x. writeAll x (suc place) (recordsIn (drop (at + spanOf (drop at s)) s)))) e
 
-pub all-done : (s : List ℕ) (at : ℕ) (p : Page) (place : ℕ) → length s ≤ at → writeAll p place (recordsIn (drop at s)) ≡ whole (ended p)
+pub all-done : (s : List ℕ) (at : ℕ) (p : Page) (place : ℕ) → length s ≤ at → writeAll p place (recordsIn (drop at s)) ≡ complete (ended p)
 all-done s at p place h = ap (writeAll p place) (records-end (drop at s) (omega (arith, length-drop at s))) ∙ write-none p place
 
 -- a record that is taken is whole
@@ -130,7 +130,7 @@ module _ (s lent : List ℕ) (p q : Page) (at : ℕ) (h : at < length s) (u : Up
       let k = sym (u .so-far) ∙ stops s at h p (u .place) (d .number) g in
       record { filled = λ x w. absurd (never x w k); bytes-are = λ x w. absurd (never x w k) }
     where
-      never : (x : Page) {o : Outcome} {m n : ℕ} → o ≡ whole x → o ≡ stopped m n → ⊥
+      never : (x : Page) {o : Outcome} {m n : ℕ} → o ≡ complete x → o ≡ stopped m n → ⊥
       never x a b = let z : _≡_ {A = ℕ} 0 1 = cc in omega arith
 
 pub upto-end : (s lent : List ℕ) (p q : Page) (at : ℕ) (v : Verdict) → Upto s lent p at → length s ≤ at → Answers p (taken (ended p)) v q
@@ -139,7 +139,7 @@ upto-end s lent p q at v u h answers =
     let k = sym (u .so-far) ∙ all-done s at p (u .place) h in
     record { filled = λ x w. ap (λ (y : Page). y .filled) (same x w k); bytes-are = λ x w. ap (λ (y : Page). y .bytes) (same x w k) }
   where
-    same : (x : Page) {o : Outcome} → o ≡ whole x → o ≡ whole (ended p) → q ≡ x
+    same : (x : Page) {o : Outcome} → o ≡ complete x → o ≡ complete (ended p) → q ≡ x
     same x a b = let y = answers .after in cc
 
 -- ---- without a buffer
@@ -211,19 +211,19 @@ counting-end s room t place at c h lent l = let x = c .come lent l in ap stopOf 
 -- ---- both
 
 -- what stops nowhere is whole
-whole-of : (o : Outcome) → Nowhere ≡ stopOf o → (p : Page) × (o ≡ whole p)
-whole-of (whole p) e = (p, refl)
-whole-of (stopped place n) e = let z : _≡_ {A = ℕ} 0 1 = cc in absurd (omega arith)
+complete-of : (o : Outcome) → Nowhere ≡ stopOf o → (p : Page) × (o ≡ complete p)
+complete-of (complete p) e = (p, refl)
+complete-of (stopped place n) e = let z : _≡_ {A = ℕ} 0 1 = cc in absurd (omega arith)
 
 module _ (lent : List ℕ) (o : Outcome) where
   pub ends-stopped : (n place : ℕ) → At n place ≡ stopOf o → (Stopped n place ≡ endOf o) × (lent ≡ leftIn lent o)
   ends-stopped n place e = go o e
     where
       go : (x : Outcome) → At n place ≡ stopOf x → (Stopped n place ≡ endOf x) × (lent ≡ leftIn lent x)
-      go (whole p) f = let z : _≡_ {A = ℕ} 0 1 = cc in absurd (omega arith)
+      go (complete p) f = let z : _≡_ {A = ℕ} 0 1 = cc in absurd (omega arith)
       go (stopped a b) f = (cc, refl)
 
-  pub ends-whole : (n : ℕ) (bytes : List ℕ) → Nowhere ≡ stopOf o → Filled o n bytes → (Written n ≡ endOf o) × (bytes ≡ leftIn lent o)
-  ends-whole n bytes e f =
-      let w = whole-of o e in
+  pub ends-complete : (n : ℕ) (bytes : List ℕ) → Nowhere ≡ stopOf o → Filled o n bytes → (Written n ≡ endOf o) × (bytes ≡ leftIn lent o)
+  ends-complete n bytes e f =
+      let w = complete-of o e in
       (ap Written (f .filled (w .0) (w .1)) ∙ sym (ap endOf (w .1)), f .bytes-are (w .0) (w .1) ∙ sym (ap (leftIn lent) (w .1)))

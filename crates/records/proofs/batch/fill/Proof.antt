@@ -10,9 +10,9 @@ use Rattle.layout.proofs.bytes.Laws.{tail-is}
 use Rattle.records.specs.Records.{spanOf}
 use borrow.Author.Needs.{needs}
 use Rattle.writer.specs.Page.{Page, pageOf}
-use Rattle.records.proofs.whole.Laws.{Upto, upto-none, upto-within, upto-next, upto-stop, upto-end}
-use Rattle.records.proofs.whole.fill.Statement.{statement}
-use Rattle.records.proofs.whole.fill.Tie as tie
+use Rattle.records.proofs.batch.Laws.{Upto, upto-none, upto-within, upto-next, upto-stop, upto-end}
+use Rattle.records.proofs.batch.fill.Statement.{statement}
+use Rattle.records.proofs.batch.fill.Tie as tie
 
 abbrev Inv-loop : tie.InvT-loop
 Inv-loop records buffer₀ filled₀ draft₀ at₀ buffer filled draft at = Upto records buffer₀ (pageOf buffer filled draft) at

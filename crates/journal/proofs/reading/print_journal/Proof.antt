@@ -1,11 +1,11 @@
 use borrow.Author.Needs.{needs}
 use denote.Ref.{now}
-use Rattle.journal.proofs.reading.Laws.{whole-return, whole-refused}
-use Rattle.journal.proofs.reading.print_whole.Statement.{statement}
-use Rattle.journal.proofs.reading.print_whole.Tie as tie
+use Rattle.journal.proofs.reading.Laws.{journal-return, journal-refused}
+use Rattle.journal.proofs.reading.print_journal.Statement.{statement}
+use Rattle.journal.proofs.reading.print_journal.Tie as tie
 
-take-whole-requires : tie.Need-take-whole-requires
-take-whole-requires c κs = search needs
+take-blocks-requires : tie.Need-take-blocks-requires
+take-blocks-requires c κs = search needs
 
 enum-told : tie.Need-enum-told
 enum-told c = search needs
@@ -28,7 +28,7 @@ returns c =
     let told = t .before .before in
     let w = told .before .before .before in
     let s = w .before .before .before in
-    whole-return _ _ _ (now (s .args .journal)) (w .take-whole .result) (w .take-whole .ensures .0) (told .enum-told .given .1) (t .print-return .ensures)
+    journal-return _ _ _ (now (s .args .journal)) (w .take-blocks .result) (w .take-blocks .ensures .0) (told .enum-told .given .1) (t .print-return .ensures)
 
 same-length-2 : tie.Need-same-length-2
 same-length-2 c = search needs
@@ -39,13 +39,13 @@ returns-2 c =
     let told = t .before .before .before in
     let w = told .before .before .before in
     let s = w .before .before .before in
-    whole-refused _ _ _ (now (s .args .journal)) (w .take-whole .result) (w .take-whole .ensures .0) (told .v .given .0 .0) (told .v .given .1) (t .print-refused .ensures)
+    journal-refused _ _ _ (now (s .args .journal)) (w .take-blocks .result) (w .take-blocks .ensures .0) (told .v .given .0 .0) (told .v .given .1) (t .print-refused .ensures)
 
-pub print-whole-spec : {M : Type 1} → statement M
-print-whole-spec =
+pub print-journal-spec : {M : Type 1} → statement M
+print-journal-spec =
     tie.close
     (tie.spec
-    take-whole-requires
+    take-blocks-requires
     enum-told
     print-return-requires
     enum-known-v
