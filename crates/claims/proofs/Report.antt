@@ -23,16 +23,16 @@ use Rattle.book.specs.Entry.{enters, handles}
 use Rattle.book.specs.Ledger.{cell, closesTo}
 use Rattle.book.specs.Site.{Sound, bookWith}
 use Rattle.book.specs.declared.site.Book.{Book}
-use Rattle.report.specs.Line.{cellsOf, lineFor, stageLine, lineTo, mapHeadings}
+use Rattle.report.specs.Fate.{cellsOf, fateFor, stageFate, fateTo, mapHeadings}
 use Rattle.report.specs.Report.{filingOf, reportAt}
-use Rattle.report.specs.declared.line.Line.{Line}
+use Rattle.report.specs.declared.fate.Fate.{Fate}
 use Rattle.report.specs.declared.report.Report.{Report}
 use Rattle.report.proofs.report.Laws.{report-handled, report-entered, headings-fit, figures-within}
 use Rattle.claims.specs.Demand as demand
 use Rattle.claims.specs.Demand.{Balanced}
 use Rattle.claims.specs.Standing.{Standing, countedIn, movesOf}
 use Rattle.claims.specs.Weighing.{seweredAt, landfilledAt, waterFor, ratesFor, receives, issues, brought, received, issued, store, formed, found, handledBy, came}
-use Rattle.claims.specs.Weighing.{remains, under, anyCloses, isClosed, heldAt, toGas, toWater, gasTotal, waterTotal, lineOf, reportBy, Weighed}
+use Rattle.claims.specs.Weighing.{remains, under, anyCloses, isClosed, heldAt, toGas, toWater, gasTotal, waterTotal, fateOf, reportBy, Weighed}
 use Rattle.claims.proofs.Setting.{SetBy}
 use Rattle.claims.proofs.State.{cameSum, leftSum, underSum, State, still-open, shut}
 use Rattle.claims.proofs.Sums.{Each, over-three}
@@ -54,7 +54,7 @@ balanced w b s h few =
       weighed-out = out;
       shown = h .handled s few;
       figures = λ e.
-          let x = reportAt c s .line .headings in
+          let x = reportAt c s .fate .headings in
           (mapHeadings filedOf x, ap (λ (t : Bool). filingOf t x) e, figures-within x (headings-fit c g s few));
       counted = h .count;
     }
@@ -143,10 +143,10 @@ module _ (counted : List ℕ) (sides : List Bool) (ms : List Move) (sums : List 
 
 -- ---- the report, part by part
 
--- a stage's line, by its sums
-abbrev stageBy : Standing → ℕ → ℕ → Line
+-- a stage's fate, by its sums
+abbrev stageBy : Standing → ℕ → ℕ → Fate
 stageBy w s k =
-    lineFor
+    fateFor
     (record {
       held = heldAt w s k;
       shipped = under shipped w s k;
@@ -169,12 +169,12 @@ difference : (store issued came : ℕ) → store + issued ≡ came → store ≡
 difference store issued came e = omega arith
 
 -- a report put together from its parts
-same-report : (posts number handled store posts' number' handled' store' : ℕ) (due due' : Bool) (line line' : Line)
-    → posts ≡ posts' → number ≡ number' → handled ≡ handled' → due ≡ due' → store ≡ store' → line ≡ line'
-    → _≡_ {A = Report} (record { posts = posts; number = number; handled = handled; due = due; store = store; line = line; filed = filingOf due (line .headings) })
-    (record { posts = posts'; number = number'; handled = handled'; due = due'; store = store'; line = line'; filed = filingOf due' (line' .headings) })
-same-report posts number handled store posts' number' handled' store' due due' line line' p q r d s l =
-    rw (p, q, r, d, s) (ap (λ (x : Line). record { posts = posts'; number = number'; handled = handled'; due = due'; store = store'; line = x; filed = filingOf due' (x .headings) }) l)
+same-report : (posts number handled store posts' number' handled' store' : ℕ) (due due' : Bool) (fate fate' : Fate)
+    → posts ≡ posts' → number ≡ number' → handled ≡ handled' → due ≡ due' → store ≡ store' → fate ≡ fate'
+    → _≡_ {A = Report} (record { posts = posts; number = number; handled = handled; due = due; store = store; fate = fate; filed = filingOf due (fate .headings) })
+    (record { posts = posts'; number = number'; handled = handled'; due = due'; store = store'; fate = fate'; filed = filingOf due' (fate' .headings) })
+same-report posts number handled store posts' number' handled' store' due due' fate fate' p q r d s l =
+    rw (p, q, r, d, s) (ap (λ (x : Fate). record { posts = posts'; number = number'; handled = handled'; due = due'; store = store'; fate = x; filed = filingOf due' (x .headings) }) l)
 
 module _ (w : Standing) (b : Book) (h : Tells w b) (up : SetBy (w .first) (w .stages) (b .setup)) (s : ℕ) (l : s < b .setup .outline .substances) where
   few : s < 8
@@ -209,9 +209,9 @@ module _ (w : Standing) (b : Book) (h : Tells w b) (up : SetBy (w .first) (w .st
         water-by (countedIn w) (u .«to_water») (movesOf w) sums (b .year .closed) k s hk few told
         ∙ ap (λ (x : Bool). under water w s k + cond (isClosed w) (toWater x (remains w s k)) 0) side-is
 
-    stage-is : stageLine sums u s k ≡ stageBy w s k
+    stage-is : stageFate sums u s k ≡ stageBy w s k
     stage-is =
-        ap (λ (r : Rates). lineFor (cellsOf sums k s) r (getD (u .«to_sewer») k false) (getD (u .«to_landfill») k false)) (up .rates k s hk l)
+        ap (λ (r : Rates). fateFor (cellsOf sums k s) r (getD (u .«to_sewer») k false) (getD (u .«to_landfill») k false)) (up .rates k s hk l)
         ∙ rw (
           held-is,
           named-is shipped (omega arith) (omega arith) (λ e. omega arith) (λ e. omega arith),
@@ -226,13 +226,13 @@ module _ (w : Standing) (b : Book) (h : Tells w b) (up : SetBy (w .first) (w .st
           up .residue k hk,
         )
 
-  -- over all stages, for each amount of a line
-  over-stages : (f : Line → ℕ) → sumTo 8 (λ k. f (stageLine sums u s k)) ≡ sumTo 8 (λ k. f (stageBy w s k))
-  over-stages f = sum-same 8 (λ k. f (stageLine sums u s k)) (λ k. f (stageBy w s k)) (λ k hk. ap f (stage-is k hk))
+  -- over all stages, for each amount of a fate
+  over-stages : (f : Fate → ℕ) → sumTo 8 (λ k. f (stageFate sums u s k)) ≡ sumTo 8 (λ k. f (stageBy w s k))
+  over-stages f = sum-same 8 (λ k. f (stageFate sums u s k)) (λ k. f (stageBy w s k)) (λ k hk. ap f (stage-is k hk))
 
-  line-is : lineTo sums u s 8 ≡ lineOf w s
-  unfolding lineTo lineOf
-  line-is =
+  fate-is : fateTo sums u s 8 ≡ fateOf w s
+  unfolding fateTo fateOf
+  fate-is =
       rw (
         over-stages (λ x. x .held),
         over-stages (λ x. x .shipped),
@@ -257,7 +257,7 @@ module _ (w : Standing) (b : Book) (h : Tells w b) (up : SetBy (w .first) (w .st
   report-told : reportAt b s ≡ reportBy w s
   report-told =
       same-report _ _ _ _ _ _ _ _ _ _ _ _ (h .count) (ap (λ (x : List ℕ). getD x s 0) (up .numbers)) out-is
-      (ap₂ (λ (c n : ℕ). valueOr false (dueOf c n)) (ap (λ (x : List ℕ). getD x s 0) (up .classes)) out-is) (difference _ _ _ stock-is) line-is
+      (ap₂ (λ (c n : ℕ). valueOr false (dueOf c n)) (ap (λ (x : List ℕ). getD x s 0) (up .classes)) out-is) (difference _ _ _ stock-is) fate-is
 
   weighs : Weighed w s
   weighs =

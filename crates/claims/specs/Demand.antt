@@ -8,9 +8,9 @@ use Rattle.amounts.specs.Decline.{taken}
 use Rattle.amounts.specs.Filed.{stepOf}
 use Rattle.book.specs.Entry.{enters, handles}
 use Rattle.book.specs.Site.{freshBook}
-use Rattle.report.specs.Line.{sixOf, weigh, mapHeadings}
+use Rattle.report.specs.Fate.{sixOf, weigh, mapHeadings}
 use Rattle.report.specs.Report.{reportOf}
-use Rattle.report.specs.declared.line.Headings.{Headings}
+use Rattle.report.specs.declared.fate.Headings.{Headings}
 use Rattle.report.specs.declared.report.Filing.the-variants.{Figures}
 use Rattle.report.specs.declared.report.Report.{Report}
 use Rattle.claims.specs.Standing.{Call, run, Standing, standing, substancesOf, countedIn, movesOf, sumOver}
@@ -31,13 +31,13 @@ withinHalf steps a b = (2 * a ≤ 2 * b + steps) × (2 * b ≤ 2 * a + steps)
 -- a report against what stands
 pub record Balanced (w : Standing) (s : ℕ) (r : Report) : Type 0 where
   -- "entered = store + held + shipped + consumed + destroyed + air + public water + soil + landfill + sewer + off site, as the report returns them"
-  pub weighed-in : entered w s ≡ r .store + weigh (r .line)
+  pub weighed-in : entered w s ≡ r .store + weigh (r .fate)
   -- "and handled = the same without store"
-  pub weighed-out : handled w s ≡ weigh (r .line)
+  pub weighed-out : handled w s ≡ weigh (r .fate)
   -- which is what the report returns as handled
   pub shown : r .handled ≡ handled w s
   -- the filed figures and the exact amounts: "each heading's step is the one that its exact amount takes"
-  pub figures : r .due ≡ true → (h : Headings) × (r .filed ≡ Figures h) × withinHalf (sixOf (mapHeadings stepOf (r .line .headings))) (sixOf h) (sixOf (r .line .headings))
+  pub figures : r .due ≡ true → (h : Headings) × (r .filed ≡ Figures h) × withinHalf (sixOf (mapHeadings stepOf (r .fate .headings))) (sixOf h) (sixOf (r .fate .headings))
   -- "the count of posts accepted"
   pub counted : r .posts ≡ length (w .posts)
 

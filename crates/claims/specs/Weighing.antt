@@ -20,9 +20,9 @@ use Rattle.post.specs.declared.moves.Move.the-variants.{Received, Issued, Broug
 use Rattle.book.specs.Entry.{closes}
 use Rattle.book.specs.Ledger.{brings}
 use Rattle.book.specs.Site.{freshBook}
-use Rattle.report.specs.Line.{toSewer, toPublicWater, toLandfill, toOffSite}
+use Rattle.report.specs.Fate.{toSewer, toPublicWater, toLandfill, toOffSite}
 use Rattle.report.specs.Report.{filingOf, reportOf}
-use Rattle.report.specs.declared.line.Line.{Line}
+use Rattle.report.specs.declared.fate.Fate.{Fate}
 use Rattle.report.specs.declared.report.Report.{Report}
 use Rattle.claims.specs.Standing.{Call, run, Standing, standing, substancesOf, numbersOf, classesOf, countedIn, movesOf, sumOver}
 
@@ -192,8 +192,8 @@ residue w s stage = gasSplit w s stage .residue + waterSplit w s stage .residue
 
 -- ---- the report: "Per substance, over all stages", which are at most eight
 
-unfoldable pub lineOf : Standing → ℕ → Line
-lineOf w s =
+unfoldable pub fateOf : Standing → ℕ → Fate
+fateOf w s =
     record {
       held = sumTo 8 (λ k. heldAt w s k);
       shipped = sumTo 8 (λ k. under shipped w s k);
@@ -218,15 +218,15 @@ dueOn w s = valueOr false (dueOf (getD (classesOf w) s 0) (handledBy w s))
 -- due and the filed figures follow from the exact amounts
 abbrev pub reportBy : Standing → ℕ → Report
 reportBy w s =
-    let line = lineOf w s in
+    let fate = fateOf w s in
     record {
       posts = length (w .posts);
       number = getD (numbersOf w) s 0;
       handled = handledBy w s;
       due = dueOn w s;
       store = store w s;
-      line = line;
-      filed = filingOf (dueOn w s) (line .headings);
+      fate = fate;
+      filed = filingOf (dueOn w s) (fate .headings);
     }
 
 -- "declined by 12 alone, never for a substance that the book has"

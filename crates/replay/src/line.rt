@@ -1,7 +1,7 @@
 // The parts of a line. A field of a report has a space before it.
 use layout::verdict::Verdict;
-use report::line::Headings;
-use report::line::Line;
+use report::fate::Fate;
+use report::fate::Headings;
 use report::report::Filing;
 use report::report::Report;
 use report::report::Reported;
@@ -34,7 +34,7 @@ fn headings(o: Output, h: Headings) -> Output {
     field(o, h.offsite)
 }
 
-fn amounts(o: Output, l: Line) -> Output {
+fn amounts(o: Output, l: Fate) -> Output {
     let o = field(o, l.held);
     let o = field(o, l.shipped);
     let o = field(o, l.consumed);
@@ -55,7 +55,7 @@ fn yes_no(o: Output, due: bool) -> Output {
 }
 
 fn known(o: Output, r: Report) -> Output {
-    let l = r.line;
+    let l = r.fate;
     let f = r.filed;
     let o = field(o, r.posts as u64);
     let o = field(o, r.number as u64);

@@ -1,3 +1,3 @@
-pub mod Line
+pub mod Fate
 pub mod Report
 pub mod Steps

@@ -11,8 +11,8 @@ use Rattle.plant.specs.declared.setup.Setup.{Setup}
 use Rattle.book.specs.Site.{stored}
 use Rattle.book.specs.declared.site.Book.{Book}
 use Rattle.book.specs.declared.site.Year.{Year}
-use Rattle.report.specs.Line.{lineTo, mapHeadings}
-use Rattle.report.specs.declared.line.Headings.{Headings}
+use Rattle.report.specs.Fate.{fateTo, mapHeadings}
+use Rattle.report.specs.declared.fate.Headings.{Headings}
 use Rattle.report.specs.declared.report.Filing.{Filing}
 use Rattle.report.specs.declared.report.Filing.the-variants.{Figures, NotDue}
 use Rattle.report.specs.declared.report.Report.{Report}
@@ -30,15 +30,15 @@ dueIn u y s = valueOr false (dueOf (getD (u .classes) s 0) (getD (y .handled) s 
 -- by the set-up and the year: how many blocks the book has taken is not in it
 abbrev pub reportIn : Setup → Year → ℕ → Report
 reportIn u y s =
-    let line = lineTo (y .sums) u s 8 in
+    let fate = fateTo (y .sums) u s 8 in
     record {
       posts = y .posts;
       number = getD (u .numbers) s 0;
       handled = getD (y .handled) s 0;
       due = dueIn u y s;
       store = stored u y s;
-      line = line;
-      filed = filingOf (dueIn u y s) (line .headings);
+      fate = fate;
+      filed = filingOf (dueIn u y s) (fate .headings);
     }
 
 abbrev pub reportAt : Book → ℕ → Report
@@ -46,7 +46,7 @@ reportAt b s = reportIn (b .setup) (b .year) s
 
 -- "declined by 12 alone, never for a substance that the book has"
 unfoldable pub reportOf : Book → ℕ → Answer Report
-unfolding checked lineTo
+unfolding checked fateTo
 reportOf b s = checked (check (ltb s (b .setup .outline .substances)) noSubstance ∷ []) (reportAt b s)
 
 -- what each case of the code's answer stands for

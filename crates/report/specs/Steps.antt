@@ -1,11 +1,11 @@
--- What only follows the code's steps, which add up the stages' lines one by one. No promise rests on it.
+-- What only follows the code's steps, which add up the stages' fates one by one. No promise rests on it.
 use Prim.Native.Nat.{_+_}
-use Rattle.report.specs.declared.line.Headings.{Headings}
-use Rattle.report.specs.declared.line.Line.{Line}
+use Rattle.report.specs.declared.fate.Headings.{Headings}
+use Rattle.report.specs.declared.fate.Fate.{Fate}
 
 -- of no stage
-abbrev pub noLine : Line
-noLine =
+abbrev pub noFate : Fate
+noFate =
     record {
       held = 0;
       shipped = 0;
@@ -26,8 +26,8 @@ addHeadings x y =
       offsite = x .offsite + y .offsite;
     }
 
-abbrev pub addLines : Line → Line → Line
-addLines x y =
+abbrev pub addFates : Fate → Fate → Fate
+addFates x y =
     record {
       held = x .held + y .held;
       shipped = x .shipped + y .shipped;

@@ -1,3 +1,3 @@
 // The report of a substance, read from a book.
-pub mod line;
+pub mod fate;
 pub mod report;

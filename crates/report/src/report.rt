@@ -7,11 +7,11 @@ ghost use Rattle.amounts.specs.Filed.{filedOf};
 ghost use Rattle.amounts.specs.Threshold.{dueOf};
 ghost use Rattle.book.specs.Site.{storedTo, Sound, SoundYear};
 ghost use Rattle.plant.specs.Setup.{SoundSetup};
-ghost use Rattle.report.specs.Line.{mapHeadings};
+ghost use Rattle.report.specs.Fate.{mapHeadings};
 ghost use Rattle.report.specs.Report.{filingOf, reportIn, reportOf, answer};
-use crate::line;
-use crate::line::Headings;
-use crate::line::Line;
+use crate::fate;
+use crate::fate::Fate;
+use crate::fate::Headings;
 use amounts::decline;
 use amounts::decline::Decline;
 use amounts::filed;
@@ -34,7 +34,7 @@ pub struct Report {
     pub handled: u64,
     pub due: bool,
     pub store: u64,
-    pub line: Line,
+    pub fate: Fate,
     pub filed: Filing,
 }
 
@@ -109,8 +109,8 @@ fn report_in(setup: Setup, year: Year, place: usize) -> Report
     let handled = year.handled[place];
     let due = due_or_not(setup.classes[place], handled);
     let store = stored_of(&year.store, &counted, place);
-    let line = line::line_to(&year.sums, setup, place);
-    let headings = line.headings;
+    let fate = fate::fate_to(&year.sums, setup, place);
+    let headings = fate.headings;
     let filed = filing_of(due, headings);
     Report {
         posts: year.posts,
@@ -118,7 +118,7 @@ fn report_in(setup: Setup, year: Year, place: usize) -> Report
         handled,
         due,
         store,
-        line,
+        fate,
         filed,
     }
 }

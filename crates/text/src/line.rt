@@ -10,7 +10,7 @@ use crate::number::put_field;
 use crate::number::put_heading;
 use crate::writing::put_byte;
 use crate::writing::put_bytes;
-use report::line::Headings;
+use report::fate::Headings;
 use report::report::Filing;
 use report::report::Report;
 

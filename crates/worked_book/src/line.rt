@@ -3,7 +3,7 @@ use amounts::decline::Decline;
 use layout::verdict::Verdict;
 use libc::STDOUT_FILENO;
 use post::fields::Post;
-use report::line::Headings;
+use report::fate::Headings;
 use report::report::Filing;
 use report::report::Report;
 use report::report::Reported;
@@ -86,7 +86,7 @@ fn known(r: Report) {
         text(b" N");
     }
     number(r.store);
-    let x = r.line;
+    let x = r.fate;
     number(x.held);
     number(x.shipped);
     number(x.consumed);

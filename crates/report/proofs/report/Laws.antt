@@ -14,13 +14,13 @@ use Rattle.book.specs.Site.{stored, inYear, Sound, SoundYear}
 use Rattle.plant.specs.Setup.{SoundSetup}
 use Rattle.book.specs.declared.site.Book.{Book}
 use Rattle.book.specs.declared.site.Year.{Year}
-use Rattle.report.specs.Line.{lineTo, sixOf, weigh, mapHeadings}
+use Rattle.report.specs.Fate.{fateTo, sixOf, weigh, mapHeadings}
 use Rattle.report.specs.Report.{filingOf, dueIn, reportIn, reportAt, reportOf}
-use Rattle.report.specs.declared.line.Headings.{Headings}
-use Rattle.report.specs.declared.line.Line.{Line}
+use Rattle.report.specs.declared.fate.Headings.{Headings}
+use Rattle.report.specs.declared.fate.Fate.{Fate}
 use Rattle.report.specs.declared.report.Filing.{Filing}
 use Rattle.report.specs.declared.report.Report.{Report}
-use Rattle.report.proofs.line.Laws.{line-total}
+use Rattle.report.proofs.fate.Laws.{fate-total}
 
 -- ---- putting a report together
 
@@ -32,10 +32,10 @@ module _ (u : Setup) (y : Year) (h : SoundYear u y) (s : ℕ) (hs : s < 8) where
   pub stored-fits : stored u y s < 2 ^ 64
   stored-fits = omega (arith, h .bounded s hs, h .posts-few)
 
-pub report-is : (u : Setup) (y : Year) (s : ℕ) (due : Bool) (store : ℕ) (line : Line) (filed : Filing)
-    → due ≡ dueIn u y s → store ≡ stored u y s → line ≡ lineTo (y .sums) u s 8 → filed ≡ filingOf due (line .headings)
-    → _≡_ {A = Report} (record { posts = y .posts; number = getD (u .numbers) s 0; handled = getD (y .handled) s 0; due = due; store = store; line = line; filed = filed }) (reportIn u y s)
-report-is u y s due store line filed d t l f = rw (f, d, t, l)
+pub report-is : (u : Setup) (y : Year) (s : ℕ) (due : Bool) (store : ℕ) (fate : Fate) (filed : Filing)
+    → due ≡ dueIn u y s → store ≡ stored u y s → fate ≡ fateTo (y .sums) u s 8 → filed ≡ filingOf due (fate .headings)
+    → _≡_ {A = Report} (record { posts = y .posts; number = getD (u .numbers) s 0; handled = getD (y .handled) s 0; due = due; store = store; fate = fate; filed = filed }) (reportIn u y s)
+report-is u y s due store fate filed d t l f = rw (f, d, t, l)
 
 -- `report_of` has the set-up and the year from the book
 pub sound-parts : (b : Book) → Sound b → (u : Setup) (y : Year) → u ≡ b .setup → y ≡ b .year → SoundSetup u × SoundYear u y
@@ -56,25 +56,25 @@ report-unknown b s u p h =
 -- ---- what a report says, over a sound book
 
 module _ (b : Book) (h : Sound b) (s : ℕ) (hs : s < 8) where
-  shown : weigh (reportAt b s .line) ≡ total (b .year .sums) s
-  shown = line-total (b .year .sums) (b .setup) s (h .setup)
+  shown : weigh (reportAt b s .fate) ≡ total (b .year .sums) s
+  shown = fate-total (b .year .sums) (b .setup) s (h .setup)
 
   -- what a report shows without the store is what was handled
-  pub report-handled : weigh (reportAt b s .line) ≡ reportAt b s .handled
+  pub report-handled : weigh (reportAt b s .fate) ≡ reportAt b s .handled
   report-handled = shown ∙ sym (h .year .weighed s hs)
 
   -- and with it what entered
-  pub report-entered : reportAt b s .store + weigh (reportAt b s .line) ≡ inYear (b .setup) (b .year) s
-  report-entered = both (reportAt b s .store) (weigh (reportAt b s .line)) (total (b .year .sums) s) shown
+  pub report-entered : reportAt b s .store + weigh (reportAt b s .fate) ≡ inYear (b .setup) (b .year) s
+  report-entered = both (reportAt b s .store) (weigh (reportAt b s .fate)) (total (b .year .sums) s) shown
     where
       both : (x y t : ℕ) → y ≡ t → x + y ≡ t + x
       both x y t e = omega arith
 
   -- so each heading is an amount of 64 bits
-  pub headings-fit : sixOf (reportAt b s .line .headings) < 2 ^ 64
-  headings-fit = part (reportAt b s .line) (total (b .year .sums) s) shown (total-fits (b .setup) (b .year) (h .year) s hs)
+  pub headings-fit : sixOf (reportAt b s .fate .headings) < 2 ^ 64
+  headings-fit = part (reportAt b s .fate) (total (b .year .sums) s) shown (total-fits (b .setup) (b .year) (h .year) s hs)
     where
-      part : (x : Line) (t : ℕ) → weigh x ≡ t → t < 2 ^ 64 → sixOf (x .headings) < 2 ^ 64
+      part : (x : Fate) (t : ℕ) → weigh x ≡ t → t < 2 ^ 64 → sixOf (x .headings) < 2 ^ 64
       part x t e k = omega arith
 
 -- ---- filed figures

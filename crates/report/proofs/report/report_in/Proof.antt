@@ -34,8 +34,8 @@ stored-of-requires c κs =
     let k = start c in
     (known k, stored-fits (k .args .t1) (k .args .t2) (k .pre .1 .0) (k .args .place) (known k))
 
-line-to-requires : tie.Need-line-to-requires
-line-to-requires c κs =
+fate-to-requires : tie.Need-fate-to-requires
+fate-to-requires c κs =
     let k = start (c .before .before .before) in
     (k .pre .0, (known k, total-fits (k .args .t1) (k .args .t2) (k .pre .1 .0) (k .args .place) (known k)))
 
@@ -44,11 +44,11 @@ filing-of-requires c κs = search needs
 
 returns : tie.Need-returns
 returns c =
-    let line = c .before .before in
-    let store = line .before .before .before in
+    let fate = c .before .before in
+    let store = fate .before .before .before in
     let due = store .before .before .before .before in
     let a = start (store .before) .args in
-    report-is (a .t1) (a .t2) (a .place) _ _ _ _ (due .due-or-not .ensures) (store .stored-of .ensures) (line .line-to .ensures) (c .filing-of .ensures)
+    report-is (a .t1) (a .t2) (a .place) _ _ _ _ (due .due-or-not .ensures) (store .stored-of .ensures) (fate .fate-to .ensures) (c .filing-of .ensures)
 
 pub report-in-spec : {M : Type 1} → statement M
 report-in-spec =
@@ -61,6 +61,6 @@ report-in-spec =
     element-copy-out-due-or-not
     due-or-not-requires
     stored-of-requires
-    line-to-requires
+    fate-to-requires
     filing-of-requires
     returns)

@@ -1,11 +1,11 @@
-// What a report shows but the store: a stage's line, and the lines of all stages added up.
+// The fate of a substance: what a report shows of it but the store, at a stage and over all stages.
 ghost use mathlib.Core.Path.{_≡_};
 ghost use Prim.Native.Nat.{_+_, _^_, _≤_, _<_};
 ghost use Rattle.amounts.specs.Treatment.{partsOf};
 ghost use Rattle.book.specs.Ledger.{total};
 ghost use Rattle.plant.specs.Setup.{Rated, SoundSetup};
-ghost use Rattle.report.specs.Line.{toSewer, toPublicWater, toLandfill, toOffSite, ratesOf, cellsOf, lineFrom, stageLine, lineTo, sixOf, weigh};
-ghost use Rattle.report.specs.Steps.{addHeadings, addLines};
+ghost use Rattle.report.specs.Fate.{toSewer, toPublicWater, toLandfill, toOffSite, ratesOf, cellsOf, fateFrom, stageFate, fateTo, sixOf, weigh};
+ghost use Rattle.report.specs.Steps.{addHeadings, addFates};
 use amounts::treatment;
 use amounts::treatment::Parts;
 use amounts::treatment::Split;
@@ -22,7 +22,7 @@ pub struct Headings {
     pub offsite: u64,
 }
 
-pub struct Line {
+pub struct Fate {
     pub held: u64,
     pub shipped: u64,
     pub consumed: u64,
@@ -99,10 +99,10 @@ fn to_off_site(landfill: bool, n: u64) -> u64
     if landfill { 0 } else { n }
 }
 
-// A stage's line, with its gas and its waste water as split.
-fn line_from(c: Cells, gas: Parts, water: Parts, sewered: bool, landfilled: bool) -> Line
-    requires { ⌜ weigh (lineFrom c gas water sewered landfilled) < 2 ^ 64 ⌝ }
-    ensures { λ r. ⌜ r ≡ lineFrom c gas water sewered landfilled ⌝ }
+// At a stage, with its gas and its waste water as split.
+fn fate_from(c: Cells, gas: Parts, water: Parts, sewered: bool, landfilled: bool) -> Fate
+    requires { ⌜ weigh (fateFrom c gas water sewered landfilled) < 2 ^ 64 ⌝ }
+    ensures { λ r. ⌜ r ≡ fateFrom c gas water sewered landfilled ⌝ }
 {
     let residue = gas.residue + water.residue;
     let destroyed = gas.destroyed + water.destroyed;
@@ -111,7 +111,7 @@ fn line_from(c: Cells, gas: Parts, water: Parts, sewered: bool, landfilled: bool
     let sewer = to_sewer(sewered, water.released);
     let offsite = c.off_site + to_off_site(landfilled, residue);
     let land = c.landfill + to_landfill(landfilled, residue);
-    Line {
+    Fate {
         held: c.held,
         shipped: c.shipped,
         consumed: c.consumed,
@@ -127,17 +127,17 @@ fn line_from(c: Cells, gas: Parts, water: Parts, sewered: bool, landfilled: bool
     }
 }
 
-fn stage_line(sums: &[u64; 576], setup: Setup, s: usize, stage: usize) -> Line
+fn stage_fate(sums: &[u64; 576], setup: Setup, s: usize, stage: usize) -> Fate
     requires { ⌜ (stage < 8) × (s < 8) ⌝ }
     requires { ⌜ Rated (ratesOf setup stage s) ⌝ }
-    requires { ⌜ weigh (stageLine (now sums) setup s stage) < 2 ^ 64 ⌝ }
-    ensures { λ r. ⌜ r ≡ stageLine (now (sums .entry)) setup s stage ⌝ }
+    requires { ⌜ weigh (stageFate (now sums) setup s stage) < 2 ^ 64 ⌝ }
+    ensures { λ r. ⌜ r ≡ stageFate (now (sums .entry)) setup s stage ⌝ }
 {
     let c = cells_of(sums, stage, s);
     let r = setup.rates[stage * 8 + s];
     let gas = parts_of(c.gas, r.gas_removal, r.gas_destruction);
     let water = parts_of(c.water, r.water_removal, r.water_destruction);
-    line_from(
+    fate_from(
         c,
         gas,
         water,
@@ -160,13 +160,13 @@ fn add_headings(x: Headings, y: Headings) -> Headings
     }
 }
 
-fn add_lines(x: Line, y: Line) -> Line
+fn add_fates(x: Fate, y: Fate) -> Fate
     requires { ⌜ weigh x + weigh y < 2 ^ 64 ⌝ }
-    ensures { λ r. ⌜ r ≡ addLines x y ⌝ }
+    ensures { λ r. ⌜ r ≡ addFates x y ⌝ }
 {
     let a = x.headings;
     let b = y.headings;
-    Line {
+    Fate {
         held: x.held + y.held,
         shipped: x.shipped + y.shipped,
         consumed: x.consumed + y.consumed,
@@ -175,7 +175,7 @@ fn add_lines(x: Line, y: Line) -> Line
     }
 }
 
-const NO_LINE: Line = Line {
+const NO_LINE: Fate = Fate {
     held: 0,
     shipped: 0,
     consumed: 0,
@@ -190,17 +190,17 @@ const NO_LINE: Line = Line {
     },
 };
 
-// The lines of all stages, added up.
-pub(crate) fn line_to(sums: &[u64; 576], setup: Setup, s: usize) -> Line
+// Over all stages, added up.
+pub(crate) fn fate_to(sums: &[u64; 576], setup: Setup, s: usize) -> Fate
     requires { ⌜ SoundSetup setup ⌝ }
     requires { ⌜ (s < 8) × (total (now sums) s < 2 ^ 64) ⌝ }
-    ensures { λ r. ⌜ r ≡ lineTo (now (sums .entry)) setup s 8 ⌝ }
+    ensures { λ r. ⌜ r ≡ fateTo (now (sums .entry)) setup s 8 ⌝ }
 {
     let mut acc = NO_LINE;
     let mut k: usize = 0;
     while k < 8 {
-        let line = stage_line(sums, setup, s, k);
-        acc = add_lines(acc, line);
+        let fate = stage_fate(sums, setup, s, k);
+        acc = add_fates(acc, fate);
         k += 1;
     }
     acc

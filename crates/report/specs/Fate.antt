@@ -1,4 +1,4 @@
--- What a report shows of a substance but the store (document 01, "Treatment and report").
+-- The fate of a substance: what a report shows of it but the store (document 01, "Treatment and report").
 use Prim.Native.Nat.{ℕ, _+_, _*_}
 use mathlib.Core.Bool.{Bool, true, false}
 use mathlib.Core.List.{List}
@@ -11,9 +11,9 @@ use Rattle.plant.specs.declared.setup.Rates.{Rates}
 use Rattle.plant.specs.declared.setup.Setup.{Setup}
 use Rattle.post.specs.Account.{held, shipped, offSite, landfill, soil, consumed, gas, water, vapour}
 use Rattle.book.specs.Ledger.{cell}
-use Rattle.report.specs.declared.line.Cells.{Cells}
-use Rattle.report.specs.declared.line.Headings.{Headings}
-use Rattle.report.specs.declared.line.Line.{Line}
+use Rattle.report.specs.declared.fate.Cells.{Cells}
+use Rattle.report.specs.declared.fate.Headings.{Headings}
+use Rattle.report.specs.declared.fate.Fate.{Fate}
 
 -- "Treated water goes to public water or sewer": an amount of it, by whether the stage's goes to the sewer
 abbrev pub toSewer : Bool → ℕ → ℕ
@@ -54,8 +54,8 @@ cellsOf sums stage s =
 
 -- Of a stage, with its gas and its waste water as split: "air (gas released and vapour), public water, soil, landfill, sewer, off site. Treated water goes to
 -- public water or sewer, residues to off site or landfill, as the stage says."
-abbrev pub lineFrom : Cells → Parts → Parts → Bool → Bool → Line
-lineFrom c g w sewer landfill =
+abbrev pub fateFrom : Cells → Parts → Parts → Bool → Bool → Fate
+fateFrom c g w sewer landfill =
     record {
       held = c .held;
       shipped = c .shipped;
@@ -73,29 +73,29 @@ lineFrom c g w sewer landfill =
     }
 
 -- the split of the gas and of the waste water, each by its own rates: "made on the year's totals, at the report"
-abbrev pub lineFor : Cells → Rates → Bool → Bool → Line
-lineFor c r sewer landfill =
-    lineFrom c (partsOf (c .gas) (r .«gas_removal») (r .«gas_destruction»)) (partsOf (c .water) (r .«water_removal») (r .«water_destruction»)) sewer landfill
+abbrev pub fateFor : Cells → Rates → Bool → Bool → Fate
+fateFor c r sewer landfill =
+    fateFrom c (partsOf (c .gas) (r .«gas_removal») (r .«gas_destruction»)) (partsOf (c .water) (r .«water_removal») (r .«water_destruction»)) sewer landfill
 
-abbrev pub stageLine : List ℕ → Setup → ℕ → ℕ → Line
-stageLine sums u s stage = lineFor (cellsOf sums stage s) (ratesOf u stage s) (getD (u .«to_sewer») stage false) (getD (u .«to_landfill») stage false)
+abbrev pub stageFate : List ℕ → Setup → ℕ → ℕ → Fate
+stageFate sums u s stage = fateFor (cellsOf sums stage s) (ratesOf u stage s) (getD (u .«to_sewer») stage false) (getD (u .«to_landfill») stage false)
 
 -- "Per substance, over all stages": here over the first n
-unfoldable pub lineTo : List ℕ → Setup → ℕ → ℕ → Line
-lineTo sums u s n =
+unfoldable pub fateTo : List ℕ → Setup → ℕ → ℕ → Fate
+fateTo sums u s n =
     record {
-      held = sumTo n (λ k. stageLine sums u s k .held);
-      shipped = sumTo n (λ k. stageLine sums u s k .shipped);
-      consumed = sumTo n (λ k. stageLine sums u s k .consumed);
-      destroyed = sumTo n (λ k. stageLine sums u s k .destroyed);
+      held = sumTo n (λ k. stageFate sums u s k .held);
+      shipped = sumTo n (λ k. stageFate sums u s k .shipped);
+      consumed = sumTo n (λ k. stageFate sums u s k .consumed);
+      destroyed = sumTo n (λ k. stageFate sums u s k .destroyed);
       headings =
           record {
-            air = sumTo n (λ k. stageLine sums u s k .headings .air);
-            water = sumTo n (λ k. stageLine sums u s k .headings .water);
-            soil = sumTo n (λ k. stageLine sums u s k .headings .soil);
-            land = sumTo n (λ k. stageLine sums u s k .headings .land);
-            sewer = sumTo n (λ k. stageLine sums u s k .headings .sewer);
-            offsite = sumTo n (λ k. stageLine sums u s k .headings .offsite);
+            air = sumTo n (λ k. stageFate sums u s k .headings .air);
+            water = sumTo n (λ k. stageFate sums u s k .headings .water);
+            soil = sumTo n (λ k. stageFate sums u s k .headings .soil);
+            land = sumTo n (λ k. stageFate sums u s k .headings .land);
+            sewer = sumTo n (λ k. stageFate sums u s k .headings .sewer);
+            offsite = sumTo n (λ k. stageFate sums u s k .headings .offsite);
           };
     }
 
@@ -103,7 +103,7 @@ lineTo sums u s n =
 abbrev pub sixOf : Headings → ℕ
 sixOf h = h .air + h .water + h .soil + h .land + h .sewer + h .offsite
 
-abbrev pub weigh : Line → ℕ
+abbrev pub weigh : Fate → ℕ
 weigh x = x .held + x .shipped + x .consumed + x .destroyed + sixOf (x .headings)
 
 -- each heading through a function

@@ -1,5 +1,5 @@
-use Rattle.report.proofs.line.to_sewer.Statement.{statement}
-use Rattle.report.proofs.line.to_sewer.Tie as tie
+use Rattle.report.proofs.fate.to_sewer.Statement.{statement}
+use Rattle.report.proofs.fate.to_sewer.Tie as tie
 
 returns : tie.Need-returns
 returns c = rw (c .if1 .taken)

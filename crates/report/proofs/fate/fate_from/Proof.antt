@@ -1,9 +1,9 @@
 use Prim.Native.Nat.{_+_}
 use native.Mathlib.Omega.{arith}
 use borrow.Author.Needs.{needs}
-use Rattle.report.proofs.line.Laws.{residue-goes}
-use Rattle.report.proofs.line.line_from.Statement.{statement}
-use Rattle.report.proofs.line.line_from.Tie as tie
+use Rattle.report.proofs.fate.Laws.{residue-goes}
+use Rattle.report.proofs.fate.fate_from.Statement.{statement}
+use Rattle.report.proofs.fate.fate_from.Tie as tie
 
 add-residue : tie.Need-add-residue
 add-residue c =
@@ -41,8 +41,8 @@ returns c =
     let sewer = offsite .before in
     rw (sewer .before .to-public-water .ensures, sewer .to-sewer .ensures, offsite .to-off-site .ensures, land .to-landfill .ensures)
 
-pub line-from-spec : {M : Type 1} → statement M
-line-from-spec =
+pub fate-from-spec : {M : Type 1} → statement M
+fate-from-spec =
     tie.close
     (tie.spec
     add-residue

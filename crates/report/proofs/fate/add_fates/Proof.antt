@@ -1,6 +1,6 @@
 use borrow.Author.Needs.{needs}
-use Rattle.report.proofs.line.add_lines.Statement.{statement}
-use Rattle.report.proofs.line.add_lines.Tie as tie
+use Rattle.report.proofs.fate.add_fates.Statement.{statement}
+use Rattle.report.proofs.fate.add_fates.Tie as tie
 
 add-t5 : tie.Need-add-t5
 add-t5 c = search needs
@@ -20,5 +20,5 @@ add-headings-requires c κs = search needs
 returns : tie.Need-returns
 returns c = rw (c .add-headings .ensures)
 
-pub add-lines-spec : {M : Type 1} → statement M
-add-lines-spec = tie.close (tie.spec add-t5 add-t6 add-t7 add-t8 add-headings-requires returns)
+pub add-fates-spec : {M : Type 1} → statement M
+add-fates-spec = tie.close (tie.spec add-t5 add-t6 add-t7 add-t8 add-headings-requires returns)

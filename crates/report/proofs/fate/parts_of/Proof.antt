@@ -8,8 +8,8 @@ use Rattle.amounts.specs.Decline.{taken, declined}
 use Rattle.amounts.specs.Treatment as treatments
 use Rattle.amounts.specs.Treatment.{partsOf, splitOf}
 use Rattle.amounts.specs.declared.treatment.Parts.{Parts}
-use Rattle.report.proofs.line.parts_of.Statement.{statement}
-use Rattle.report.proofs.line.parts_of.Tie as tie
+use Rattle.report.proofs.fate.parts_of.Statement.{statement}
+use Rattle.report.proofs.fate.parts_of.Tie as tie
 
 module _ (a r d : ℕ) (h : (r ≤ 1000000) × (d ≤ 1000000)) where
   split-taken : splitOf a r d ≡ taken (partsOf a r d)
