@@ -39,7 +39,7 @@ measured Content numbers p = checked (check (floatsUnused p) range ∷ []) (p .q
 measured Loss numbers p =
     lossOver (p .material) (rowOf (getD numbers (p .substance) 0)) (valueOf (p .w)) (valueOf (p .u)) (valueOf (p .p)) (valueOf (p .q))
 
--- what a kind does with its amount: "1 opening, 2 bought: material, g"; "3 issued: material, stage, g"; 4 to 12: at a stage, of a substance; "13 close"
+-- what a kind does with its amount: "1 opening, 2 bought: material, g"; "3 issued: material, stage, g"; 4 to 12 and 14: at a stage, of a substance; "13 close"
 abbrev pub moveOf : Does → Post → ℕ → Move
 moveOf Receives p n = Received (p .material) n
 moveOf Issues p n = Issued (p .material) (p .stage) n

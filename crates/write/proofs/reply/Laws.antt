@@ -6,7 +6,7 @@ use Prim.Native.Nat.{ℕ}
 use lib.ListN.{length}
 use Rattle.streams.specs.Record.{isComplete}
 use Rattle.streams.specs.declared.record.Record.{Record}
-use Rattle.writer.specs.Page.{Page, pageOf, Sound}
+use Rattle.writer.specs.Page.{pageOf, Sound}
 use Rattle.writer.specs.declared.draft.Draft.{Draft}
 use Rattle.writer.specs.declared.page.Taken.{Taken}
 use Rattle.write.specs.Reply.{closedState, Told, Replied, madeBy, couldRead}

@@ -1,12 +1,11 @@
-use mathlib.Core.Path.{_≡_, refl, sym, ap, subst, _∙_}
+use mathlib.Core.Path.{sym, ap, subst, _∙_}
 use mathlib.Core.Bool.{true, false}
 use Prim.Native.Nat.{_≤_}
 use native.Mathlib.Omega.{arith}
 use denote.Ref.{now}
 use lib.ListN.{length, length-take}
 use Rattle.streams.specs.Record.{isComplete, Within}
-use Rattle.streams.specs.declared.record.Record.{Record}
-use Rattle.writer.specs.Page.{Page, pageOf}
+use Rattle.writer.specs.Page.{pageOf}
 use Rattle.write.specs.Reply.{madeBy, couldRead}
 use Rattle.write.proofs.reply.Laws.{closed-replied, told-replied}
 use borrow.Author.Needs.{needs}
