@@ -11,4 +11,3 @@ pub mod Figures
 pub mod written
 pub mod Filled
 pub mod Reread
-pub mod Worked
