@@ -11,7 +11,8 @@ use Rattle.layout.specs.Verdict.{verdictOf}
 use Rattle.layout.specs.declared.verdict.Verdict.{Verdict}
 use Rattle.layout.specs.declared.verdict.Verdict.the-variants.{Accepted, Declined}
 use Rattle.layout.specs.declared.outline.Outline.{Outline}
-use Rattle.post.specs.Moves.{moveAt, Fits}
+use Rattle.post.specs.Moves.{moveAt}
+use Rattle.post.specs.Steps.{Fits}
 use Rattle.post.specs.declared.moves.Move.{Move}
 use Rattle.book.specs.Entry.{isThere, storeAfter, sumsAfter, handledAfter}
 use Rattle.book.specs.Ledger.{total}

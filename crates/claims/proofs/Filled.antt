@@ -23,7 +23,8 @@ use Rattle.layout.proofs.frame.Laws.{is-held}
 use Rattle.layout.proofs.frame.Made.{held-made, count-made, body-made}
 use Rattle.layout.proofs.holds.Laws.{of-posts}
 use Rattle.post.specs.Fields.{postAt}
-use Rattle.post.specs.Moves.{laidOut, moveAt, moveIn}
+use Rattle.post.specs.Moves.{laidOut}
+use Rattle.post.proofs.moves.Laws.{move-laid}
 use Rattle.book.specs.Block.{onYear, blockOn}
 use Rattle.book.specs.Posts.{postOn, takenTo, postsOn}
 use Rattle.book.specs.Site.{bookWith}
@@ -74,10 +75,10 @@ run-admits u y z f n some run =
 
 -- a post that is taken is 48 bytes
 pub taken-long : (u : Setup) (y z : Year) (s : List ℕ) → postOn u y s ≡ taken z → length s ≡ 48
-unfolding moveAt laidOut
+unfolding laidOut
 taken-long u y z s e =
     let p = posted u y z s e in
-    let a = was-taken (laidOut (u .outline) s) (λ k. moveIn k (u .numbers) (postAt s)) (p .move) (p .admitted .told) in
+    let a = move-laid (u .outline) (u .numbers) s (p .move) (p .admitted .told) in
     let b = was-taken (checked (check (eqb (length s) 48) layout ∷ []) (postAt s)) _ (a .0) (a .1) in
     eqb-true (length s) 48 (passed (check (eqb (length s) 48) layout ∷ []) (postAt s) (b .0) (b .1) .0 .0)
 

@@ -2,3 +2,4 @@ pub mod Account
 pub mod Fields
 pub mod Kind
 pub mod Moves
+pub mod Steps

@@ -1,5 +1,5 @@
 -- What a post does, as one value (document 01, "Posts" and "Why a call is declined, in checking order", 6 to 9).
-use Prim.Native.Nat.{ℕ, _*_, _≤_, _<_}
+use Prim.Native.Nat.{ℕ, _*_}
 use mathlib.Core.Bool.{Bool}
 use mathlib.Core.List.{List, [], _∷_}
 use lib.Dec.{eqb}
@@ -18,9 +18,6 @@ use Rattle.post.specs.declared.kind.Does.{Does}
 use Rattle.post.specs.declared.kind.Does.the-variants.{Receives, Issues, Brings, Leaves, Closes}
 use Rattle.post.specs.declared.kind.Measure.{Measure}
 use Rattle.post.specs.declared.kind.Measure.the-variants.{Quantity, Content, Loss}
-use Rattle.post.specs.declared.moves.Laid.{Laid}
-use Rattle.post.specs.declared.moves.LaidRead.{LaidRead}
-use Rattle.post.specs.declared.moves.LaidRead.the-variants as laid
 use Rattle.post.specs.declared.moves.Move.{Move}
 use Rattle.post.specs.declared.moves.Move.the-variants.{Received, Issued, Brought, Gone, Close}
 use Rattle.post.specs.declared.moves.MoveRead.{MoveRead}
@@ -29,27 +26,6 @@ use Rattle.post.specs.declared.moves.MoveRead.the-variants as read
 -- "an unused float has zero as its whole range, so decline 7 covers it"
 abbrev pub floatsUnused : Post → Bool
 floatsUnused p = inRanges unusedRanges (valueOf (p .w)) (valueOf (p .u)) (valueOf (p .p)) (valueOf (p .q))
-
--- The amount of a post, by its kind's measure and the management numbers: the quantity as stated, "g times content", or the loss of its form and floats over the
--- substance's coefficient row. 7 for a float; 7, 8 and 9 for a loss, in that order.
-unfoldable pub measured : Measure → List ℕ → Post → Answer ℕ
-unfolding checked
-measured Quantity numbers p = checked (check (floatsUnused p) range ∷ []) (p .quantity)
-measured Content numbers p = checked (check (floatsUnused p) range ∷ []) (p .quantity * p .content)
-measured Loss numbers p =
-    lossOver (p .material) (rowOf (getD numbers (p .substance) 0)) (valueOf (p .w)) (valueOf (p .u)) (valueOf (p .p)) (valueOf (p .q))
-
--- what a kind does with its amount: "1 opening, 2 bought: material, g"; "3 issued: material, stage, g"; 4 to 12 and 14: at a stage, of a substance; "13 close"
-abbrev pub moveOf : Does → Post → ℕ → Move
-moveOf Receives p n = Received (p .material) n
-moveOf Issues p n = Issued (p .material) (p .stage) n
-moveOf (Brings account) p n = Brought account (p .stage) (p .substance) n
-moveOf (Leaves account) p n = Gone account (p .stage) (p .substance) n
-moveOf Closes p n = Close
-
--- the move of a post of a row's kind
-abbrev pub moveIn : Row → List ℕ → Post → Answer Move
-moveIn k numbers p = onTaken (measured (k .measure) numbers p) (λ n. taken (moveOf (k .does) p n))
 
 -- 6: "A length, kind, form, index, count, limit, order or zero place breaks the layout, floats aside"
 unfoldable pub laidOut : Outline → List ℕ → Answer Row
@@ -69,38 +45,36 @@ unfoldable pub wellFormed : Outline → List ℕ → Answer Row
 unfolding laidOut checked
 wellFormed o s = onTaken (laidOut o s) (λ k. checked (check (floatsFit (k .measure) (postAt s)) range ∷ []) k)
 
+-- the amount of a post that is well formed, by its kind's measure and the management numbers: the quantity as stated, "g times content", or the loss of its form
+-- and floats over the substance's coefficient row, which 8 and 9 may decline
+unfoldable pub measured : Measure → List ℕ → Post → Answer ℕ
+measured Quantity numbers p = taken (p .quantity)
+measured Content numbers p = taken (p .quantity * p .content)
+measured Loss numbers p =
+    lossOver (p .material) (rowOf (getD numbers (p .substance) 0)) (valueOf (p .w)) (valueOf (p .u)) (valueOf (p .p)) (valueOf (p .q))
+
+-- what a kind does with its amount: "1 opening, 2 bought: material, g"; "3 issued: material, stage, g"; 4 to 12 and 14: at a stage, of a substance; "13 close"
+abbrev pub moveOf : Does → Post → ℕ → Move
+moveOf Receives p n = Received (p .material) n
+moveOf Issues p n = Issued (p .material) (p .stage) n
+moveOf (Brings account) p n = Brought account (p .stage) (p .substance) n
+moveOf (Leaves account) p n = Gone account (p .stage) (p .substance) n
+moveOf Closes p n = Close
+
+-- the move of a post of a row's kind
+abbrev pub moveIn : Row → List ℕ → Post → Answer Move
+moveIn k numbers p = onTaken (measured (k .measure) numbers p) (λ n. taken (moveOf (k .does) p n))
+
 -- 6 to 9: what the bytes of a post move
 unfoldable pub moveAt : Outline → List ℕ → List ℕ → Answer Move
-unfolding laidOut measured
-moveAt o numbers s = onTaken (laidOut o s) (λ k. moveIn k numbers (postAt s))
+unfolding wellFormed measured
+moveAt o numbers s = onTaken (wellFormed o s) (λ k. moveIn k numbers (postAt s))
 
 -- the move that the bytes of an accepted post say, whatever the outline; bytes that say none were declined
 abbrev pub said : List ℕ → List ℕ → Move
 said numbers s = valueOr Close (onTaken (kindOf (postAt s .kind)) (λ k. moveIn k numbers (postAt s)))
 
--- ---- what the code has of a post in its layout
-
-abbrev pub laidAs : Post → Row → Laid
-laidAs p k = record { post = p; measure = k .measure; does = k .does }
-
-abbrev pub laidOf : Post → Answer Row → Answer Laid
-laidOf p (taken k) = taken (laidAs p k)
-laidOf p (declined n) = declined n
-
--- what each case of the code's answers stands for
-abbrev pub laidAnswer : LaidRead → Answer Laid
-laidAnswer (laid.Known l) = taken l
-laidAnswer (laid.Declined d) = declined (d .number)
-
+-- what each case of the code's answer stands for
 abbrev pub answer : MoveRead → Answer Move
 answer (read.Known m) = taken m
 answer (read.Declined d) = declined (d .number)
-
--- ---- what is true of every move that bytes tell, by an outline
-
-abbrev pub Fits : Outline → Move → Type 0
-Fits o (Received m g) = (m < o .materials) × (g ≤ 2000000000)
-Fits o (Issued m stage g) = (m < o .materials) × ((stage < o .stages) × (g ≤ 2000000000))
-Fits o (Brought account stage s n) = (account < 9) × ((stage < o .stages) × ((s < o .substances) × (n ≤ 2000000000000000)))
-Fits o (Gone account stage s n) = (account < 9) × ((stage < o .stages) × ((s < o .substances) × (n ≤ 2000000000000000)))
-Fits o Close = Unit

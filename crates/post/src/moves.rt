@@ -8,7 +8,8 @@ ghost use Rattle.losses.specs.Loss as losses;
 ghost use Rattle.post.specs.declared.kind.Measure.the-variants.{Content};
 ghost use Rattle.layout.specs.Verdict.{verdictOf};
 ghost use Rattle.post.specs.Fields.{postAt};
-ghost use Rattle.post.specs.Moves.{floatsUnused, floatsFit, measured, moveOf, laidOut, wellFormed, moveAt, laidOf, laidAnswer, answer};
+ghost use Rattle.post.specs.Moves.{floatsUnused, floatsFit, moveOf, laidOut, wellFormed, moveAt, answer};
+ghost use Rattle.post.specs.Steps.{laidOf, laidAnswer, amountRead};
 use crate::fields;
 use crate::fields::Post;
 use crate::kind;
@@ -106,7 +107,7 @@ fn stated(p: Post, n: u64) -> Loss
 
 fn measure(m: Measure, numbers: &[u16], p: Post) -> Loss
     requires { ⌜ (m ≡ Content → p .quantity * p .content < 2 ^ 64) ⌝ }
-    ensures { λ r. ⌜ losses.answer r ≡ measured m (now (numbers .entry)) p ⌝ }
+    ensures { λ r. ⌜ losses.answer r ≡ amountRead m (now (numbers .entry)) p ⌝ }
 {
     match m {
         Measure::Quantity => stated(p, p.quantity),

@@ -1,18 +1,21 @@
 -- The ranges of the forms, and what reading four floats tells of a form that they are the inputs of. Assumes nothing.
 use mathlib.Core.Path.{_≡_, refl, sym, ap, _∙_}
-use mathlib.Core.Bool.{Bool, true, false}
+use mathlib.Core.Bool.{Bool, true, false, cond}
 use mathlib.Core.List.{[], _∷_}
-use Prim.Native.Nat.{ℕ}
-use lib.Dec.{T, ltb, lit<}
+use Prim.Native.Nat.{ℕ, _≤_, _<_}
+use native.Mathlib.Omega.{arith}
+use borrow.Author.Tests.{eqb-false}
+use lib.Dec.{T, eqb, ltb, lit<}
 use lib.IntN.{pos}
 use lib.Ieee.{Float, fin, ofBits, round}
 use Rattle.losses.specs.Binary64.{valueOf}
-use Rattle.amounts.specs.Decline.{Answer, taken, check, checked, onTaken, range}
-use Rattle.losses.specs.Form.{floatingRanges, fixedRanges, stationRanges, inRanges, ranged, inputsOf, inputsAnswer, AllUpward}
+use Rattle.amounts.specs.Decline.{Answer, taken, declined, isTaken, check, checked, onTaken, layout, range}
+use Rattle.losses.specs.Form.{floatingRanges, fixedRanges, stationRanges, inRanges, ranged, formOf, inForm, inputsOf, inputsAnswer, AllUpward}
 use Rattle.losses.specs.Pattern.{Upward}
 use Rattle.losses.specs.declared.form.Inputs.{Inputs}
 use Rattle.losses.specs.declared.form.InputsRead.{InputsRead}
 use Rattle.losses.specs.declared.form.LossForm.{LossForm}
+use Rattle.losses.specs.declared.form.LossForm.the-variants.{FloatingRoof, FixedRoof, Station}
 use Rattle.losses.specs.declared.form.Ranges.{Ranges}
 use Rattle.losses.specs.declared.pattern.Range.{Range}
 
@@ -60,3 +63,28 @@ module _ (w u p q : Float) (form : Inputs → LossForm) where
   pub filled : (ranges : Ranges) (r t : InputsRead) → inputsAnswer r ≡ inputsOf ranges w u p q → r ≡ t → next (inputsAnswer t) ≡ ranged ranges w u p q (form inputs)
   unfolding inputsOf
   filled ranges r t e same = ap (λ (k : InputsRead). next (inputsAnswer k)) (sym same) ∙ ap next e ∙ by-test (inRanges ranges w u p q)
+
+-- ---- a form whose floats aren't in their ranges
+
+-- one of the three is declined by 7
+pub not-in-form : (n : ℕ) (w u p q : Float) → 1 ≤ n → n < 4 → inForm n w u p q ≡ false → formOf n w u p q ≡ declined range
+unfolding inForm formOf ranged checked
+not-in-form n w u p q low high e = go (eqb n 1) (eqb n 2) (eqb n 3) refl refl refl e
+  where
+    one : {A : Type 0} (t : Bool) (a : A) → isTaken (checked (check t range ∷ []) a) ≡ false → checked (check t range ∷ []) a ≡ declined range
+    one true a f = let z : _≡_ {A = ℕ} 0 1 = cc in absurd (omega arith)
+    one false a f = refl
+
+    chosen : Bool → Bool → Bool → Answer LossForm
+    chosen a b c =
+        cond a (ranged floatingRanges w u p q (FloatingRoof w u p))
+        (cond b (ranged fixedRanges w u p q (FixedRoof w u p q)) (cond c (ranged stationRanges w u p q (Station w u p q)) (declined layout)))
+
+    last : (n ≡ 1 → ⊥) → (n ≡ 2 → ⊥) → n ≡ 3
+    last x y = omega (arith, x, y)
+
+    go : (a b c : Bool) → eqb n 1 ≡ a → eqb n 2 ≡ b → eqb n 3 ≡ c → isTaken (chosen a b c) ≡ false → chosen a b c ≡ declined range
+    go true b c ha hb hc f = one (inRanges floatingRanges w u p q) (FloatingRoof w u p) f
+    go false true c ha hb hc f = one (inRanges fixedRanges w u p q) (FixedRoof w u p q) f
+    go false false true ha hb hc f = one (inRanges stationRanges w u p q) (Station w u p q) f
+    go false false false ha hb hc f = absurd (eqb-false n 3 hc (last (eqb-false n 1 ha) (eqb-false n 2 hb)))

@@ -2,7 +2,7 @@
 use mathlib.Core.Path.{_≡_, refl, sym, ap, _∙_, subst}
 use mathlib.Core.Bool.{Bool, true, false, cond}
 use mathlib.Core.List.{[], _∷_}
-use Prim.Native.Nat.{ℕ, zero, suc, _+_, _-_, _*_, _/_, _^_, _≤_, min, zero-le}
+use Prim.Native.Nat.{ℕ, zero, suc, _+_, _-_, _*_, _/_, _^_, _≤_, _<_, min, zero-le}
 use native.Mathlib.Nat.{le-of-eq, le-trans, div-le-of-le-mul, mul-pos}
 use native.Mathlib.Omega.{arith}
 use lib.Dec.{T, leb, ltb, lit<}
@@ -13,13 +13,14 @@ use borrow.Author.Tests.{le-leb}
 use Rattle.losses.specs.Binary64.{whole}
 use Rattle.amounts.specs.Decline.{Answer, taken, declined, check, checked, onTaken, layout, range, excess}
 use Rattle.losses.specs.Coefficient.{rowOf}
-use Rattle.losses.specs.Form.{stationRanges, inRanges, formOf}
+use Rattle.losses.specs.Form.{stationRanges, inRanges, formOf, inForm}
 use Rattle.losses.specs.Loss.{microgramsOf, kgOf, limitedOf, lossOf, lossOver, vapourOf}
 use Rattle.losses.specs.Whole.{wholePart}
 use Rattle.losses.specs.declared.coefficient.CoefficientRow.{CoefficientRow}
 use Rattle.losses.specs.declared.form.LossForm.{LossForm}
 use Rattle.losses.specs.declared.form.LossForm.the-variants.{Station}
 use Rattle.amounts.proofs.decline.Laws.{one-taken, was-taken}
+use Rattle.losses.proofs.form.Laws.{not-in-form}
 use Rattle.losses.proofs.loss.Finite.{at-most}
 
 -- ---- what is negative has no whole part
@@ -88,6 +89,11 @@ loss-bounded form found n e = let z = was-taken (kgOf form found) limitedOf n e 
 pub over-bounded : (form : ℕ) (found : Answer CoefficientRow) (w u p q : Float) (n : ℕ) → lossOver form found w u p q ≡ taken n → n ≤ 2000000000000000
 unfolding lossOver
 over-bounded form found w u p q n e = let z = was-taken (formOf form w u p q) (λ f. lossOf f found) n e in loss-bounded (z .0) found n (z .2)
+
+-- where the floats of one of the three forms aren't in their ranges it is a 7
+pub over-range : (form : ℕ) (found : Answer CoefficientRow) (w u p q : Float) → 1 ≤ form → form < 4 → inForm form w u p q ≡ false → lossOver form found w u p q ≡ declined range
+unfolding lossOver
+over-range form found w u p q low high e = rw (not-in-form form w u p q low high e)
 
 -- a station's loss is the same over any two rows
 pub station-alone : (found other : Answer CoefficientRow) (w u p q : Float) → lossOver 3 found w u p q ≡ lossOver 3 other w u p q

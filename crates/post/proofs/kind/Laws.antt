@@ -5,12 +5,12 @@ use mathlib.Core.List.{List, [], _∷_}
 use Prim.Native.Nat.{ℕ, _*_, _≤_, _<_}
 use native.Mathlib.Nat.{mul-le-mul}
 use native.Mathlib.Omega.{arith}
-use borrow.Author.Tests.{ltb-true, ne-eqb}
+use borrow.Author.Tests.{leb-true, ltb-true, ne-eqb}
 use lib.Dec.{eqb, leb, ltb}
 use Rattle.amounts.specs.Decline.{Answer, taken, declined, layout}
 use Rattle.layout.specs.declared.outline.Outline.{Outline}
 use Rattle.layout.proofs.Each.{and-true}
-use Rattle.post.specs.Kind.{Row, below, contents, grams, micrograms, inSpan, fieldsFit, rows, rowIf, find, kindOf, limited}
+use Rattle.post.specs.Kind.{Row, below, formNumbers, contents, grams, micrograms, inSpan, fieldsFit, rows, rowIf, find, kindOf, limited}
 use Rattle.post.specs.declared.fields.Post.{Post}
 use Rattle.post.specs.declared.kind.Does.{Does}
 use Rattle.post.specs.declared.kind.Does.the-variants.{Receives, Issues, Brings, Leaves, Closes}
@@ -62,11 +62,11 @@ only-six n m e = go rows e
 
 -- ---- what the limits of a row tell of what it does
 
--- an amount of a substance is at most 2×10^15 micrograms
+-- an amount of a substance is at most 2×10^15 micrograms, and a loss is one of a form
 abbrev pub Amounts : Measure → Limits → Type 0
 Amounts Quantity l = l .quantity ≡ micrograms
 Amounts Content l = (l .content ≡ contents) × (l .quantity ≡ grams)
-Amounts Loss l = Unit
+Amounts Loss l = l .material ≡ formNumbers
 
 -- of a material it is in grams
 abbrev pub Stocks : Measure → Limits → Type 0
@@ -114,7 +114,7 @@ all-well o = (
                     (
                       (omega arith, (refl, (refl, (refl, refl)))),
                       (
-                        (omega arith, (refl, (refl, tt))),
+                        (omega arith, (refl, (refl, refl))),
                         (refl, ((omega arith, (refl, (refl, (refl, refl)))), tt)),
                       ),
                     ),
@@ -187,4 +187,21 @@ product-fits o d m l p w e u = go d (subst (λ (i : Measure). Well o d i l) e w)
     go Issues h = absurd (h .1 .1)
     go (Brings account) h = pairs account h
     go (Leaves account) h = pairs account h
+    go Closes h = let z : _≡_ {A = ℕ} 0 1 = cc in absurd (omega arith)
+
+-- the form of a post whose row asks for a loss is 1, 2 or 3
+pub form-fits : (o : Outline) (d : Does) (m : Measure) (l : Limits) (p : Post) → Well o d m l → m ≡ Loss → fieldsFit l p ≡ true → (1 ≤ p .material) × (p .material < 4)
+form-fits o d m l p w e fit = go d (subst (λ (i : Measure). Well o d i l) e w)
+  where
+    pairs : l .material ≡ formNumbers → (1 ≤ p .material) × (p .material < 4)
+    pairs h =
+        let a = and-true (inSpan (l .material) (p .material)) _ fit .0 in
+        let b = and-true (leb 1 (p .material)) (ltb (p .material) 4) (subst (λ (span : Span). inSpan span (p .material) ≡ true) h a) in
+        (leb-true 1 (p .material) (b .0), ltb-true (p .material) 4 (b .1))
+
+    go : (x : Does) → Well o x Loss l → (1 ≤ p .material) × (p .material < 4)
+    go Receives h = absurd (h .1)
+    go Issues h = absurd (h .1 .1)
+    go (Brings account) h = pairs (h .1 .1 .1)
+    go (Leaves account) h = pairs (h .1 .1 .1)
     go Closes h = let z : _≡_ {A = ℕ} 0 1 = cc in absurd (omega arith)

@@ -2,7 +2,7 @@
 use mathlib.Core.Path.{_≡_, refl, sym, ap, subst, _∙_}
 use mathlib.Core.Bool.{Bool, true, false}
 use mathlib.Core.List.{List, [], _∷_}
-use Prim.Native.Nat.{ℕ, _*_, _≤_}
+use Prim.Native.Nat.{ℕ, _*_, _≤_, _<_}
 use native.Mathlib.Omega.{arith}
 use borrow.Author.Tests.{eq-eqb, ne-eqb}
 use lib.Dec.{eqb}
@@ -10,10 +10,8 @@ use lib.ListN.{length, getD}
 use Rattle.losses.specs.Binary64.{valueOf}
 use Rattle.losses.specs.Coefficient.{rowOf}
 use Rattle.amounts.specs.Decline.{Answer, taken, declined, check, checked, onTaken, isTaken, layout, range}
-use Rattle.losses.specs.Form.{formOf, inForm}
-use Rattle.losses.specs.Loss.{lossOf, lossOver}
-use Rattle.amounts.proofs.decline.Laws.{one-taken, was-taken}
-use Rattle.losses.proofs.loss.Laws.{over-bounded}
+use Rattle.amounts.proofs.decline.Laws.{was-taken}
+use Rattle.losses.proofs.loss.Laws.{over-bounded, over-range}
 use Rattle.amounts.specs.declared.decline.Decline.{Decline}
 use Rattle.layout.specs.declared.outline.Outline.{Outline}
 use Rattle.layout.specs.Verdict.{verdictOf}
@@ -21,7 +19,8 @@ use Rattle.layout.specs.declared.verdict.Verdict.the-variants.{Accepted, Declin
 use Rattle.layout.proofs.Checked.{passed}
 use Rattle.post.specs.Fields.{postAt}
 use Rattle.post.specs.Kind.{Row, fieldsFit, kindOf, kindAt, limited}
-use Rattle.post.specs.Moves.{floatsUnused, floatsFit, measured, moveOf, moveIn, laidOut, wellFormed, moveAt, laidAs, laidOf, Fits}
+use Rattle.post.specs.Moves.{floatsUnused, floatsFit, measured, moveOf, moveIn, laidOut, wellFormed, moveAt}
+use Rattle.post.specs.Steps.{laidAs, laidOf, amountRead, Fits}
 use Rattle.post.specs.declared.fields.Post.{Post}
 use Rattle.post.specs.declared.kind.Does.{Does}
 use Rattle.post.specs.declared.kind.Does.the-variants.{Receives, Issues, Brings, Leaves, Closes}
@@ -31,7 +30,7 @@ use Rattle.post.specs.declared.kind.Measure.the-variants.{Quantity, Cont
 use Rattle.post.specs.declared.kind.Span.{Span}
 use Rattle.post.specs.declared.moves.Laid.{Laid}
 use Rattle.post.specs.declared.moves.Move.{Move}
-use Rattle.post.proofs.kind.Laws.{Stocks, Amounts, Well, Under, well, under, product-small, only-six}
+use Rattle.post.proofs.kind.Laws.{Stocks, Amounts, Well, Under, well, under, product-small, form-fits, only-six}
 
 -- ---- 6, check by check
 
@@ -82,7 +81,7 @@ refused-laid p (declined m) n e = cc
 
 module _ (o : Outline) (s : List ℕ) where
   pub not-laid : (numbers : List ℕ) (n : ℕ) → laidOut o s ≡ declined n → declined n ≡ moveAt o numbers s
-  unfolding moveAt
+  unfolding moveAt wellFormed
   not-laid numbers n h = rw h
 
   pub not-formed : (d : Decline) → laidOut o s ≡ declined (d .number) → Declined d ≡ verdictOf (wellFormed o s)
@@ -90,22 +89,6 @@ module _ (o : Outline) (s : List ℕ) where
   not-formed d h = rw h
 
   module _ (r : Row) (is : laidOut o s ≡ taken r) where
-    pub no-amount : (numbers : List ℕ) (n : ℕ) → declined n ≡ measured (r .measure) numbers (postAt s) → declined n ≡ moveAt o numbers s
-    unfolding moveAt
-    no-amount numbers n h = rw (is, ← h)
-
-    pub amount : (numbers : List ℕ) (n : ℕ) → taken n ≡ measured (r .measure) numbers (postAt s) → taken (moveOf (r .does) (postAt s) n) ≡ moveAt o numbers s
-    unfolding moveAt
-    amount numbers n h = rw (is, ← h)
-
-    pub formed : floatsFit (r .measure) (postAt s) ≡ true → Accepted ≡ verdictOf (wellFormed o s)
-    unfolding wellFormed
-    formed h = rw (is, h)
-
-    pub no-range : floatsFit (r .measure) (postAt s) ≡ false → Declined (record { number = 7 }) ≡ verdictOf (wellFormed o s)
-    unfolding wellFormed
-    no-range h = rw (is, h)
-
     -- the row is that of the post's kind, and its limits hold
     pub row-laid : (kindOf (postAt s .kind) ≡ taken r) × (fieldsFit (r .limits o) (postAt s) ≡ true)
     unfolding laidOut
@@ -119,25 +102,79 @@ module _ (o : Outline) (s : List ℕ) where
           ap (λ (q : Post). fieldsFit (r .limits o) q) (sym same) ∙ ap (λ (k : Row). fieldsFit (k .limits o) (b .0)) (d .1) ∙ d .0 .0,
         )
 
+    -- a loss whose floats aren't in their ranges is a 7
+    no-loss : (numbers : List ℕ) → floatsFit Loss (postAt s) ≡ false → 1 ≤ postAt s .material → postAt s .material < 4 → measured Loss numbers (postAt s) ≡ declined range
+    unfolding measured
+    no-loss numbers h low high =
+        let p = postAt s in
+        over-range (p .material) (rowOf (getD numbers (p .substance) 0)) (valueOf (p .w)) (valueOf (p .u)) (valueOf (p .p)) (valueOf (p .q)) low high h
+
+    one-row : (t : Bool) (numbers : List ℕ)
+        → onTaken (checked (check t range ∷ []) r) (λ k. moveIn k numbers (postAt s)) ≡ onTaken (checked (check t range ∷ []) r) (λ _. moveIn r numbers (postAt s))
+    unfolding checked
+    one-row true numbers = refl
+    one-row false numbers = refl
+
+    -- 7 of the post, and then its amount, is the amount as the code reads it
+    by-floats : (m : Measure) (t : Bool) (numbers : List ℕ) (f : ℕ → Answer Move) → floatsFit m (postAt s) ≡ t → (m ≡ Loss → (1 ≤ postAt s .material) × (postAt s .material < 4))
+        → onTaken (checked (check t range ∷ []) r) (λ _. onTaken (measured m numbers (postAt s)) f) ≡ onTaken (amountRead m numbers (postAt s)) f
+    unfolding measured amountRead checked
+    by-floats Quantity true numbers f h form = rw h
+    by-floats Quantity false numbers f h form = rw h
+    by-floats Content true numbers f h form = rw h
+    by-floats Content false numbers f h form = rw h
+    by-floats Loss true numbers f h form = refl
+    by-floats Loss false numbers f h form = let b = form refl in sym (ap (λ (x : Answer ℕ). onTaken x f) (no-loss numbers h (b .0) (b .1)))
+
+    move-read : (numbers : List ℕ) → moveAt o numbers s ≡ onTaken (amountRead (r .measure) numbers (postAt s)) (λ n. taken (moveOf (r .does) (postAt s) n))
+    unfolding moveAt wellFormed
+    move-read numbers =
+        let p = postAt s in
+        let z = row-laid in
+        ap (λ (x : Answer Row). onTaken (onTaken x (λ k. checked (check (floatsFit (k .measure) p) range ∷ []) k)) (λ k. moveIn k numbers p)) is
+        ∙ one-row (floatsFit (r .measure) p) numbers
+        ∙ by-floats (r .measure) (floatsFit (r .measure) p) numbers (λ n. taken (moveOf (r .does) p n)) refl
+        (λ e. form-fits o (r .does) (r .measure) (r .limits o) p (well o (p .kind) r (z .0)) e (z .1))
+
+    pub no-amount : (numbers : List ℕ) (n : ℕ) → declined n ≡ amountRead (r .measure) numbers (postAt s) → declined n ≡ moveAt o numbers s
+    no-amount numbers n h = ap (λ (x : Answer ℕ). onTaken x (λ n. taken (moveOf (r .does) (postAt s) n))) h ∙ sym (move-read numbers)
+
+    pub amount : (numbers : List ℕ) (n : ℕ) → taken n ≡ amountRead (r .measure) numbers (postAt s) → taken (moveOf (r .does) (postAt s) n) ≡ moveAt o numbers s
+    amount numbers n h = ap (λ (x : Answer ℕ). onTaken x (λ n. taken (moveOf (r .does) (postAt s) n))) h ∙ sym (move-read numbers)
+
+    pub formed : floatsFit (r .measure) (postAt s) ≡ true → Accepted ≡ verdictOf (wellFormed o s)
+    unfolding wellFormed
+    formed h = rw (is, h)
+
+    pub no-range : floatsFit (r .measure) (postAt s) ≡ false → Declined (record { number = 7 }) ≡ verdictOf (wellFormed o s)
+    unfolding wellFormed
+    no-range h = rw (is, h)
+
 -- ---- what a move that is read tells
 
--- the amount of a quantity or a content is what was stated
-stated-amount : (t : Bool) (n m : ℕ) → checked (check t range ∷ []) n ≡ taken m → m ≡ n
-stated-amount t n m e = passed (check t range ∷ []) n m e .1
+-- a move that is read is that of the row which the post is laid out by
+pub move-laid : (o : Outline) (numbers s : List ℕ) (m : Move) → moveAt o numbers s ≡ taken m → (r : Row) × (laidOut o s ≡ taken r) × (moveIn r numbers (postAt s) ≡ taken m)
+unfolding moveAt wellFormed
+move-laid o numbers s m e =
+    let a = was-taken (wellFormed o s) (λ k. moveIn k numbers (postAt s)) m e in
+    let b = was-taken (laidOut o s) (λ k. checked (check (floatsFit (k .measure) (postAt s)) range ∷ []) k) (a .0) (a .1) in
+    let same : a .0 ≡ b .0 = passed (check (floatsFit (b .0 .measure) (postAt s)) range ∷ []) (b .0) (a .0) (b .2) .1 in
+    (a .0, b .1 ∙ ap taken (sym same), a .2)
 
 module _ (o : Outline) (numbers : List ℕ) (p : Post) (r : Row) (n : ℕ) (told : measured (r .measure) numbers p ≡ taken n) (u : Under (r .limits o) p) where
   grams-of : (m : Measure) → measured m numbers p ≡ taken n → Stocks m (r .limits o) → n ≤ 2000000000
   unfolding measured
-  grams-of Quantity e q = let low = u .quantity in omega (arith, stated-amount (floatsUnused p) (p .quantity) n e, ap (λ (x : Span). x .end) q)
+  grams-of Quantity e q = let low = u .quantity in let same : p .quantity ≡ n = cc in omega (arith, same, ap (λ (x : Span). x .end) q)
   grams-of Content e q = absurd q
   grams-of Loss e q = absurd q
 
   amount-of : (m : Measure) → measured m numbers p ≡ taken n → Amounts m (r .limits o) → n ≤ 2000000000000000
   unfolding measured
-  amount-of Quantity e q = let low = u .quantity in omega (arith, stated-amount (floatsUnused p) (p .quantity) n e, ap (λ (x : Span). x .end) q)
+  amount-of Quantity e q = let low = u .quantity in let same : p .quantity ≡ n = cc in omega (arith, same, ap (λ (x : Span). x .end) q)
   amount-of Content e q =
       let low = product-small (p .quantity) (p .content) (rw (q .1) at (u .quantity)) (rw (q .0) at (u .content)) in
-      omega (arith, stated-amount (floatsUnused p) (p .quantity * p .content) n e)
+      let same : p .quantity * p .content ≡ n = cc in
+      omega (arith, same)
   amount-of Loss e q = over-bounded _ _ _ _ _ _ n e
 
   fits-by : (d : Does) → Well o d (r .measure) (r .limits o) → Fits o (moveOf d p n)
@@ -149,31 +186,11 @@ module _ (o : Outline) (numbers : List ℕ) (p : Post) (r : Row) (n : ℕ) (told
 
 -- a move that is read fits the outline
 pub move-fits : (o : Outline) (numbers s : List ℕ) (m : Move) → moveAt o numbers s ≡ taken m → Fits o m
-unfolding moveAt
 move-fits o numbers s m e =
     let p = postAt s in
-    let a = was-taken (laidOut o s) (λ k. moveIn k numbers p) m e in
+    let a = move-laid o numbers s m e in
     let r = a .0 in
     let z = row-laid o s r (a .1) in
     let f = was-taken (measured (r .measure) numbers p) (λ n. taken (moveOf (r .does) p n)) m (a .2) in
     let is : moveOf (r .does) p (f .0) ≡ m = cc in
     subst (Fits o) is (fits-by o numbers p r (f .0) (f .1) (under (r .limits o) p (z .1)) (r .does) (well o (p .kind) r (z .0)))
-
--- the floats of a post that has an amount are in their ranges
-measured-fit : (m : Measure) (numbers : List ℕ) (p : Post) (n : ℕ) → measured m numbers p ≡ taken n → floatsFit m p ≡ true
-unfolding measured inForm lossOver
-measured-fit Quantity numbers p n e = one-taken (floatsUnused p) range (p .quantity) n (sym e) .0
-measured-fit Content numbers p n e = one-taken (floatsUnused p) range (p .quantity * p .content) n (sym e) .0
-measured-fit Loss numbers p n e =
-    let form = formOf (p .material) (valueOf (p .w)) (valueOf (p .u)) (valueOf (p .p)) (valueOf (p .q)) in
-    ap isTaken (was-taken form (λ f. lossOf f (rowOf (getD numbers (p .substance) 0))) n e .1)
-
--- a post that a book's 6 to 9 pass is well formed
-pub well-formed : (o : Outline) (numbers s : List ℕ) (m : Move) → moveAt o numbers s ≡ taken m → isTaken (wellFormed o s) ≡ true
-unfolding moveAt wellFormed
-well-formed o numbers s m e =
-    let p = postAt s in
-    let a = was-taken (laidOut o s) (λ k. moveIn k numbers p) m e in
-    let r = a .0 in
-    let f = was-taken (measured (r .measure) numbers p) (λ n. taken (moveOf (r .does) p n)) m (a .2) in
-    rw (a .1, measured-fit (r .measure) numbers p (f .0) (f .1))

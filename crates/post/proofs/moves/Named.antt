@@ -11,22 +11,19 @@ use Rattle.layout.specs.declared.outline.Outline.{Outline}
 use Rattle.post.specs.Account.{held, offSite}
 use Rattle.post.specs.Fields.{postAt}
 use Rattle.post.specs.Kind.{Row, rows, rowIf, find, kindOf}
-use Rattle.post.specs.Moves.{measured, moveOf, moveIn, laidOut, moveAt, said}
+use Rattle.post.specs.Moves.{measured, moveOf, moveIn, moveAt, said}
 use Rattle.post.specs.declared.fields.Post.{Post}
 use Rattle.post.specs.declared.kind.Does.{Does}
 use Rattle.post.specs.declared.kind.Does.the-variants.{Receives, Issues, Brings, Leaves, Closes}
 use Rattle.post.specs.declared.moves.Move.{Move}
 use Rattle.post.specs.declared.moves.Move.the-variants.{Received, Issued, Brought, Gone, Close}
-use Rattle.post.proofs.moves.Laws.{row-laid}
+use Rattle.post.proofs.moves.Laws.{row-laid, move-laid}
 
 -- ---- the row of a move that is read
 
 pub row-read : (o : Outline) (numbers s : List ℕ) (m : Move) → moveAt o numbers s ≡ taken m
     → (r : Row) × (kindOf (postAt s .kind) ≡ taken r) × (moveIn r numbers (postAt s) ≡ taken m)
-unfolding moveAt
-row-read o numbers s m e =
-    let a = was-taken (laidOut o s) (λ k. moveIn k numbers (postAt s)) m e in
-    (a .0, row-laid o s (a .0) (a .1) .0, a .2)
+row-read o numbers s m e = let a = move-laid o numbers s m e in (a .0, row-laid o s (a .0) (a .1) .0, a .2)
 
 -- it is the move that the bytes say, whatever the outline
 pub said-is : (o : Outline) (numbers s : List ℕ) (m : Move) → moveAt o numbers s ≡ taken m → said numbers s ≡ m

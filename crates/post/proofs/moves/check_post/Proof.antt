@@ -5,7 +5,8 @@ use denote.Ref.{now}
 use Rattle.amounts.specs.Decline.{taken}
 use Rattle.post.specs.Fields.{postAt}
 use Rattle.post.specs.Kind.{Row}
-use Rattle.post.specs.Moves.{floatsFit, laidOut, laidAs, laidAnswer}
+use Rattle.post.specs.Moves.{floatsFit, laidOut}
+use Rattle.post.specs.Steps.{laidAs, laidAnswer}
 use Rattle.post.specs.declared.moves.Laid.{Laid}
 use Rattle.post.proofs.moves.Laws.{known-laid, refused-laid, not-formed, formed, no-range}
 use Rattle.post.proofs.moves.check_post.Statement.{statement}

@@ -1,4 +1,4 @@
-use Rattle.post.specs.Moves.{measured}
+use Rattle.post.specs.Steps.{amountRead}
 use native.Mathlib.Omega.{arith}
 use borrow.Author.Needs.{needs}
 use Rattle.post.proofs.moves.measure.Statement.{statement}
@@ -32,15 +32,15 @@ loss-by-number-requires : tie.Need-loss-by-number-requires
 loss-by-number-requires c κs = search needs
 
 returns : tie.Need-returns
-unfolding measured
+unfolding amountRead
 returns c = rw (c .before .enum-told .given .1) (c .stated .ensures)
 
 returns-2 : tie.Need-returns-2
-unfolding measured
+unfolding amountRead
 returns-2 c = rw (c .before .before .before .enum-told2 .given .1) (c .stated2 .ensures)
 
 returns-3 : tie.Need-returns-3
-unfolding measured
+unfolding amountRead
 returns-3 c = let k = c .before in rw (k .before .enum-told3 .given .1, ← k .number-at .ensures) (c .loss-by-number .ensures)
 
 pub measure-spec : {M : Type 1} → statement M

@@ -7,7 +7,8 @@ use Rattle.amounts.specs.Decline.{taken}
 use Rattle.losses.specs.Loss as losses
 use Rattle.post.specs.Fields.{postAt}
 use Rattle.post.specs.Kind.{Row}
-use Rattle.post.specs.Moves.{measured, moveOf, laidOut, laidAs, laidAnswer}
+use Rattle.post.specs.Moves.{moveOf, laidOut}
+use Rattle.post.specs.Steps.{laidAs, laidAnswer, amountRead}
 use Rattle.post.specs.declared.fields.Post.{Post}
 use Rattle.post.specs.declared.moves.Laid.{Laid}
 use Rattle.post.proofs.kind.Laws.{well, under, product-fits}
@@ -27,8 +28,8 @@ found : (c : tie.After-known-told) → let a = start c .args in (r : Row) × (la
 found c = known-laid (postAt (now (start c .args .s))) _ (post c) (sym (ap laidAnswer (c .before .l .given .1)) ∙ c .before .before .before .read-post .ensures)
 
 as-measured : (c : tie.After-measure) → let k = c .before .before in
-    losses.answer (c .measure .result) ≡ measured (found k .0 .measure) (now (start k .args .numbers)) (postAt (now (start k .args .s)))
-as-measured c = let k = c .before .before in c .measure .ensures ∙ ap (λ (l : Laid). measured (l .measure) (now (start k .args .numbers)) (l .post)) (found k .2)
+    losses.answer (c .measure .result) ≡ amountRead (found k .0 .measure) (now (start k .args .numbers)) (postAt (now (start k .args .s)))
+as-measured c = let k = c .before .before in c .measure .ensures ∙ ap (λ (l : Laid). amountRead (l .measure) (now (start k .args .numbers)) (l .post)) (found k .2)
 
 -- ---- the needs
 
