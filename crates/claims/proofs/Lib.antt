@@ -5,6 +5,7 @@ pub mod Setting
 pub mod Tells
 pub mod Report
 pub mod Demand
+pub mod ByKind
 pub mod Weighing
 pub mod Singles
 pub mod Figures

@@ -16,12 +16,12 @@ unfolding sumOver
 sum-last f [] m = omega arith
 sum-last f (x ∷ ms) m = omega (arith, sum-last f ms m)
 
--- each move of a list
-abbrev pub Each : (Move → Type 0) → List Move → Type 0
+-- each of a list
+abbrev pub Each : {A : Type 0} → (A → Type 0) → List A → Type 0
 Each P [] = Unit
 Each P (m ∷ ms) = P m × Each P ms
 
-pub each-last : (P : Move → Type 0) (ms : List Move) (m : Move) → Each P ms → P m → Each P (ms ++ (m ∷ []))
+pub each-last : {A : Type 0} (P : A → Type 0) (ms : List A) (m : A) → Each P ms → P m → Each P (ms ++ (m ∷ []))
 each-last P [] m h e = (e, tt)
 each-last P (x ∷ ms) m h e = (h .0, each-last P ms m (h .1) e)
 

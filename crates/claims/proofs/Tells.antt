@@ -21,10 +21,12 @@ use Rattle.plant.specs.Stage.{withStage}
 use Rattle.layout.specs.declared.outline.Outline.{Outline}
 use Rattle.plant.specs.declared.setup.Setup.{Setup}
 use Rattle.layout.proofs.Each.{and-true}
-use Rattle.post.specs.Moves.{said}
+use Rattle.post.specs.Fields.{postAt}
+use Rattle.post.specs.Kind.{Row, kindOf}
+use Rattle.post.specs.Moves.{moveIn, said}
 use Rattle.post.specs.declared.moves.Move.{Move}
 use Rattle.post.proofs.moves.Laws.{move-fits}
-use Rattle.post.proofs.moves.Named.{Named, said-is, move-named}
+use Rattle.post.proofs.moves.Named.{Named, row-read, said-is, move-named}
 use Rattle.book.specs.Entry.{enters, handles, sumsAfter, closes}
 use Rattle.book.specs.Posts.{postOn, takenTo, singleOn}
 use Rattle.book.specs.Site.{SoundYear, inYear, bookWith, freshBook}
@@ -52,6 +54,10 @@ pub data Setting (w : Standing) (u : Setup) : Type 0 where
   unset : w .first ≡ [] → w .stages ≡ [] → u .outline .substances ≡ 0 → Setting w u
   is-set : SetBy (w .first) (w .stages) u → Setting w u
 
+-- the bytes of a post say a move by the row of their kind
+abbrev pub Read : List ℕ → List ℕ → Type 0
+Read numbers s = (r : Row) × (kindOf (postAt s .kind) ≡ taken r) × (moveIn r numbers (postAt s) ≡ taken (said numbers s))
+
 pub record Tells (w : Standing) (b : Book) : Type 0 where
   pub sound : SoundParts b
   pub setting : Setting w (b .setup)
@@ -59,6 +65,7 @@ pub record Tells (w : Standing) (b : Book) : Type 0 where
   pub entered : (s : ℕ) → s < 8 → inYear (b .setup) (b .year) s ≡ demand.entered w s
   pub handled : (s : ℕ) → s < 8 → getD (b .year .handled) s 0 ≡ demand.handled w s
   pub named : Each Named (movesOf w)
+  pub read : Each (Read (numbersOf w)) (w .posts)
   pub state : State (countedIn w) (b .setup .«to_water») (movesOf w) (b .year .sums) (b .year .closed)
 
 -- the substances of the book are those that stand
@@ -97,6 +104,7 @@ module _ (w : Standing) (u : Setup) (y : Year) (blocks : ℕ) (h : SoundSetup u)
         entered = λ s hs. in-none s hs ∙ sym (nothing-in (enters (countedIn w) s));
         handled = λ s hs. omega (arith, g .weighed s hs, in-none s hs, nothing-in (handles (countedIn w) s));
         named = subst (Each Named) (sym no-moves) tt;
+        read = subst (Each (Read (numbersOf w))) (sym no-posts) tt;
         state =
             subst (λ (ms : List Move). State (countedIn w) (u .«to_water») ms (y .sums) (y .closed)) (sym no-moves)
             (state-none (countedIn w) (u .«to_water») (y .sums) (y .closed) o
@@ -137,6 +145,12 @@ module _ (w : Standing) (b : Book) (z : Year) (s : List ℕ) (blocks : ℕ) (h :
   says : said (numbersOf w) s ≡ p .move
   says = ap (λ (l : List ℕ). said l s) (sym (by .numbers)) ∙ said-is (u .outline) (u .numbers) s (p .move) (p .admitted .told)
 
+  was-read : Read (numbersOf w) s
+  was-read =
+      subst (λ (l : List ℕ). Read l s) (by .numbers)
+      (let z = row-read (u .outline) (u .numbers) s (p .move) (p .admitted .told) in
+      (z .0, z .1, z .2 ∙ ap taken (sym (said-is (u .outline) (u .numbers) s (p .move) (p .admitted .told)))))
+
   moves-next : movesOf (withPosts w (s ∷ [])) ≡ movesOf w ++ (p .move ∷ [])
   moves-next = map-last (said (numbersOf w)) (w .posts) s ∙ ap (λ (m : Move). movesOf w ++ (m ∷ [])) says
 
@@ -160,6 +174,7 @@ module _ (w : Standing) (b : Book) (z : Year) (s : List ℕ) (blocks : ℕ) (h :
         entered = λ i hi. omega (arith, step .entered i hi, h .entered i hi, sum-next (enters (countedIn w) i), ap (λ (l : List ℕ). enters l i m) counted-is);
         handled = λ i hi. omega (arith, step .handled i hi, h .handled i hi, sum-next (handles (countedIn w) i), ap (λ (l : List ℕ). handles l i m) counted-is);
         named = subst (Each Named) (sym moves-next) (each-last Named (movesOf w) m (h .named) is-named);
+        read = each-last (Read (numbersOf w)) (w .posts) s (h .read) was-read;
         state =
             subst (λ (ms : List Move). State (countedIn w) (u .«to_water») ms (z .sums) (z .closed)) (sym moves-next)
             (subst (λ (x : Year). State (countedIn w) (u .«to_water») (movesOf w ++ (m ∷ [])) (x .sums) (x .closed)) (sym (p .year))
@@ -186,6 +201,7 @@ tells-many w b z f zero blocks h e =
       entered = h .entered;
       handled = h .handled;
       named = h .named;
+      read = h .read;
       state = h .state;
     }))
 tells-many w b z f (suc n) blocks h e =

@@ -5,3 +5,4 @@ pub mod Singles
 pub mod Figures
 pub mod Written
 pub mod Reread
+pub mod ByKind
