@@ -1,13 +1,18 @@
 -- Records on standard input.
-use Prim.Native.Nat.{ℕ, _≤_, _<_}
+use Prim.Native.Nat.{ℕ, _+_, _*_, _≤_, _<_}
 use mathlib.Core.Path.{_≡_}
 use mathlib.Core.Bool.{Bool, true, false}
 use mathlib.Core.List.{List}
-use lib.ListN.{length}
+use lib.ListN.{length, getD}
 use Rattle.streams.specs.declared.input.Input.{Input}
 use Rattle.streams.specs.declared.record.Found.{Found}
+use Rattle.streams.specs.declared.record.Head.{Head}
 use Rattle.streams.specs.declared.record.Record.{Record}
 use Rattle.streams.specs.declared.record.Record.the-variants.{Complete, Malformed, End, Failed}
+
+-- a record's head: a tag byte and a length in 16 bits, the lowest byte first
+abbrev pub headOf : List ℕ → Head
+headOf s = record { tag = getD s 0 0; size = getD s 1 0 + getD s 2 0 * 256 }
 
 abbrev pub isComplete : Record → Bool
 isComplete (Complete tag size) = true

@@ -1,7 +1,7 @@
 // The records: a tag byte, a length in 16 bits, and that many bytes.
 ghost use mathlib.Core.Path.{_≡_};
-ghost use Prim.Native.Nat.{_+_, _*_, _<_};
-ghost use Rattle.streams.specs.Record.{Follows};
+ghost use Prim.Native.Nat.{_<_};
+ghost use Rattle.streams.specs.Record.{headOf, Follows};
 use crate::input;
 use crate::input::Input;
 use crate::input::Part;
@@ -19,6 +19,11 @@ pub struct Found {
     pub input: Input,
 }
 
+struct Head {
+    tag: u8,
+    size: usize,
+}
+
 fn wide(x: u8) -> usize
     ensures { λ r. ⌜ r ≡ x ⌝ }
     ensures { λ r. ⌜ r < 256 ⌝ }
@@ -26,16 +31,21 @@ fn wide(x: u8) -> usize
     x as usize
 }
 
-fn length_of(low: u8, high: u8) -> usize
-    ensures { λ r. ⌜ r ≡ low + high * 256 ⌝ }
+// A tag byte, and a length in 16 bits with the low byte first.
+fn head_of(s: [u8; 3]) -> Head
+    ensures { λ r. ⌜ r ≡ headOf s ⌝ }
 {
-    wide(low) + wide(high) * 256
+    Head {
+        tag: s[0],
+        size: wide(s[1]) + wide(s[2]) * 256,
+    }
 }
 
 // What follows a record's tag and length.
-fn body(from: Input, tag: u8, size: usize, space: &mut [u8]) -> Found
+fn body(from: Input, head: Head, space: &mut [u8]) -> Found
     ensures { λ r. ⌜ Follows from (now (space .entry)) (now (space .exit)) r ⌝ }
 {
+    let size = head.size;
     if size > space.len() {
         return Found {
             record: Record::Malformed,
@@ -46,7 +56,7 @@ fn body(from: Input, tag: u8, size: usize, space: &mut [u8]) -> Found
     let input = taken.input;
     let part = taken.part;
     let record = match part {
-        Part::Full => Record::Complete(tag, size),
+        Part::Full => Record::Complete(head.tag, size),
         Part::Short(_) => Record::Malformed,
         Part::End => Record::Malformed,
         Part::Failed => Record::Failed,
@@ -62,7 +72,7 @@ pub fn next(from: Input, space: &mut [u8]) -> Found
     let input = taken.input;
     let part = taken.part;
     match part {
-        Part::Full => body(input, head[0], length_of(head[1], head[2]), space),
+        Part::Full => body(input, head_of(head), space),
         Part::Short(_) => Found {
             record: Record::Malformed,
             input,

@@ -11,10 +11,10 @@ use Rattle.streams.proofs.record.body.Tie as tie
 
 -- the space with the part in it, as long as it was
 abbrev after : tie.After-read-part → List ℕ
-after k = let s = k .before .before .before .before in k .read-part .last .1 .0 ++ drop (s .args .size) (s .args .space .now)
+after k = let s = k .before .before .before .before in k .read-part .last .1 .0 ++ drop (s .args .head .size) (s .args .space .now)
 
 back : (k : tie.After-read-part) → length (after k) ≡ length (k .before .before .before .before .args .space .now)
-back k = let s = k .before .before .before .before in as-long (s .args .space .now) (k .read-part .last .1 .0) (s .args .size) (k .read-part .ensures .same-length)
+back k = let s = k .before .before .before .before in as-long (s .args .space .now) (k .read-part .last .1 .0) (s .args .head .size) (k .read-part .ensures .same-length)
 
 returns : tie.Need-returns
 returns c =

@@ -15,17 +15,8 @@ read-part-requires c κs = search needs
 enum-told : tie.Need-enum-told
 enum-told c = search needs
 
-array-read-body : tie.Need-array-read-body
-array-read-body c = search needs
-
-array-read-length-of : tie.Need-array-read-length-of
-array-read-length-of c = search needs
-
-array-read-length-of-2 : tie.Need-array-read-length-of-2
-array-read-length-of-2 c = search needs
-
-length-of-requires : tie.Need-length-of-requires
-length-of-requires c κs = search needs
+head-of-requires : tie.Need-head-of-requires
+head-of-requires c κs = search needs
 
 body-requires : tie.Need-body-requires
 body-requires c κs = search needs
@@ -76,10 +67,7 @@ next-spec =
     slice-aggregate-read-part
     read-part-requires
     enum-told
-    array-read-body
-    array-read-length-of
-    array-read-length-of-2
-    length-of-requires
+    head-of-requires
     body-requires
     enum-told-2
     enum-told-3
