@@ -1,7 +1,8 @@
 // The records: a tag byte, a length in 16 bits, and that many bytes.
 ghost use mathlib.Core.Path.{_≡_};
-ghost use Prim.Native.Nat.{_<_};
-ghost use Rattle.streams.specs.Record.{headOf, Follows};
+ghost use Prim.Native.Nat.{_≤_, _<_};
+ghost use lib.ListN.{length};
+ghost use Rattle.streams.specs.Record.{headOf, startOf, recordOf, Follows};
 use crate::input;
 use crate::input::Input;
 use crate::input::Part;
@@ -24,6 +25,12 @@ struct Head {
     size: usize,
 }
 
+// A record that begins, or what there is in its place.
+enum Start {
+    Begun(Head),
+    Over(Record),
+}
+
 fn wide(x: u8) -> usize
     ensures { λ r. ⌜ r ≡ x ⌝ }
     ensures { λ r. ⌜ r < 256 ⌝ }
@@ -41,27 +48,49 @@ fn head_of(s: [u8; 3]) -> Head
     }
 }
 
-// What follows a record's tag and length.
-fn body(from: Input, head: Head, space: &mut [u8]) -> Found
-    ensures { λ r. ⌜ Follows from (now (space .entry)) (now (space .exit)) r ⌝ }
+// By what became of the part that is a record's head.
+fn start_of(part: Part, s: [u8; 3], room: usize) -> Start
+    ensures { λ r. ⌜ r ≡ startOf room s part ⌝ }
 {
-    let size = head.size;
-    if size > space.len() {
-        return Found {
-            record: Record::Malformed,
-            input: from,
-        };
+    match part {
+        Part::Full => {
+            let head = head_of(s);
+            if head.size > room {
+                return Start::Over(Record::Malformed);
+            }
+            Start::Begun(head)
+        }
+        Part::Short(_) => Start::Over(Record::Malformed),
+        Part::End => Start::Over(Record::End),
+        Part::Failed => Start::Over(Record::Failed),
     }
-    let taken = input::read_part(from, &mut space[..size]);
-    let input = taken.input;
-    let part = taken.part;
-    let record = match part {
-        Part::Full => Record::Complete(head.tag, size),
+}
+
+// By what became of the part that is its body.
+fn record_of(head: Head, part: Part) -> Record
+    ensures { λ r. ⌜ r ≡ recordOf head part ⌝ }
+{
+    match part {
+        Part::Full => Record::Complete(head.tag, head.size),
         Part::Short(_) => Record::Malformed,
         Part::End => Record::Malformed,
         Part::Failed => Record::Failed,
-    };
-    Found { record, input }
+    }
+}
+
+// What follows a record's head.
+fn body(from: Input, head: Head, space: &mut [u8]) -> Found
+    requires { ⌜ head .size ≤ length (now space) ⌝ }
+    ensures { λ r. ⌜ Follows from (now (space .entry)) (now (space .exit)) r ⌝ }
+{
+    let size = head.size;
+    let taken = input::read_part(from, &mut space[..size]);
+    let input = taken.input;
+    let part = taken.part;
+    Found {
+        record: record_of(head, part),
+        input,
+    }
 }
 
 pub fn next(from: Input, space: &mut [u8]) -> Found
@@ -71,19 +100,9 @@ pub fn next(from: Input, space: &mut [u8]) -> Found
     let taken = input::read_part(from, &mut head);
     let input = taken.input;
     let part = taken.part;
-    match part {
-        Part::Full => body(input, head_of(head), space),
-        Part::Short(_) => Found {
-            record: Record::Malformed,
-            input,
-        },
-        Part::End => Found {
-            record: Record::End,
-            input,
-        },
-        Part::Failed => Found {
-            record: Record::Failed,
-            input,
-        },
+    let start = start_of(part, head, space.len());
+    match start {
+        Start::Begun(h) => body(input, h, space),
+        Start::Over(record) => Found { record, input },
     }
 }
