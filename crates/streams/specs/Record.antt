@@ -8,7 +8,7 @@ use lib.ListN.{length, getD}
 use Rattle.streams.specs.declared.input.Input.{Input}
 use Rattle.streams.specs.declared.input.Part.{Part}
 use Rattle.streams.specs.declared.input.Part.the-variants as part
-use Rattle.streams.specs.declared.record.Found.{Found}
+use Rattle.streams.specs.declared.record.RecordRead.{RecordRead}
 use Rattle.streams.specs.declared.record.Head.{Head}
 use Rattle.streams.specs.declared.record.Record.{Record}
 use Rattle.streams.specs.declared.record.Record.the-variants.{Complete, Malformed, End, Failed}
@@ -51,7 +51,7 @@ Within room End = Unit {0}
 Within room Failed = Unit {0}
 
 -- the record that is read next: a whole one leaves fewer parts to ask for
-pub record Follows (from : Input) (given after : List ℕ) (n : Found) : Type 0 where
+pub record Follows (from : Input) (given after : List ℕ) (n : RecordRead) : Type 0 where
   pub same-length : length after ≡ length given
   pub within : Within (length given) (n .«record»)
   pub falls : isComplete (n .«record») ≡ true → n .input .left < from .left

@@ -15,7 +15,7 @@ pub enum Record {
     Failed,
 }
 
-pub struct Found {
+pub struct RecordRead {
     pub record: Record,
     pub input: Input,
 }
@@ -79,7 +79,7 @@ fn record_of(head: Head, part: Part) -> Record
 }
 
 // What follows a record's head.
-fn body(from: Input, head: Head, space: &mut [u8]) -> Found
+fn body(from: Input, head: Head, space: &mut [u8]) -> RecordRead
     requires { ⌜ head .size ≤ length (now space) ⌝ }
     ensures { λ r. ⌜ Follows from (now (space .entry)) (now (space .exit)) r ⌝ }
 {
@@ -87,13 +87,13 @@ fn body(from: Input, head: Head, space: &mut [u8]) -> Found
     let taken = input::read_part(from, &mut space[..size]);
     let input = taken.input;
     let part = taken.part;
-    Found {
+    RecordRead {
         record: record_of(head, part),
         input,
     }
 }
 
-pub fn next(from: Input, space: &mut [u8]) -> Found
+pub fn next(from: Input, space: &mut [u8]) -> RecordRead
     ensures { λ r. ⌜ Follows from (now (space .entry)) (now (space .exit)) r ⌝ }
 {
     let mut head = [0u8; 3];
@@ -103,6 +103,6 @@ pub fn next(from: Input, space: &mut [u8]) -> Found
     let start = start_of(part, head, space.len());
     match start {
         Start::Begun(h) => body(input, h, space),
-        Start::Over(record) => Found { record, input },
+        Start::Over(record) => RecordRead { record, input },
     }
 }

@@ -12,7 +12,7 @@ use Rattle.streams.specs.declared.input.Input.{Input}
 use Rattle.streams.specs.declared.input.Part.{Part}
 use Rattle.streams.specs.declared.input.Part.the-variants.{Full, Short, End, Failed}
 use Rattle.streams.specs.Record.{headOf, begunIn, startOf, recordOf, isComplete, Within, Follows}
-use Rattle.streams.specs.declared.record.Found.{Found}
+use Rattle.streams.specs.declared.record.RecordRead.{RecordRead}
 use Rattle.streams.specs.declared.record.Head.{Head}
 use Rattle.streams.specs.declared.record.Record.{Record}
 use Rattle.streams.specs.declared.record.Record.the-variants.{Malformed}
@@ -61,7 +61,7 @@ none room s End r e = let x : of-record.End ≡ r = cc in subst (NoRecord room) 
 none room s Failed r e = let x : of-record.Failed ≡ r = cc in subst (NoRecord room) x (refl, tt)
 
 -- what there is in a record's place asks for nothing more
-pub over : (from : Input) (given : List ℕ) (n : Found) (s : List ℕ) (p : Part) → Over (n .«record») ≡ startOf (length given) s p → Follows from given given n
+pub over : (from : Input) (given : List ℕ) (n : RecordRead) (s : List ℕ) (p : Part) → Over (n .«record») ≡ startOf (length given) s p → Follows from given given n
 over from given n s p e =
     let w = none (length given) s p (n .«record») e in
     record { same-length = refl; within = w .1; falls = λ t. absurd (true≢false (sym t ∙ w .0)) }
@@ -84,7 +84,7 @@ falls-of before after h (Short n) f e = absurd (true≢false (sym e))
 falls-of before after h End f e = absurd (true≢false (sym e))
 falls-of before after h Failed f e = absurd (true≢false (sym e))
 
-pub follows : (from : Input) (given after : List ℕ) (n : Found) (h : Head) (p : Part) → length after ≡ length given → n .«record» ≡ recordOf h p
+pub follows : (from : Input) (given after : List ℕ) (n : RecordRead) (h : Head) (p : Part) → length after ≡ length given → n .«record» ≡ recordOf h p
     → h .size ≤ length given → Falls (from .left) (n .input .left) p → Follows from given after n
 follows from given after n h p same e l f =
     record {
