@@ -36,10 +36,14 @@ pub record Behind (done : ℕ) (given after : List ℕ) (got : ℤ) : Type 0 whe
 abbrev pub endBehind : ℕ → Part
 endBehind done = cond (eqb done 0) End (Short done)
 
+-- a part of which so many bytes are there is full where these are all that were asked for
+abbrev pub progressOf : ℕ → ℕ → Progress
+progressOf done room = cond (eqb done room) (Done Full) (More done)
+
 -- a read that fails is a failure, wherever it comes; only a read that answers 0 is the end
-abbrev pub afterRead : ℕ → ℤ → Progress
-afterRead done (negsuc n) = Done Failed
-afterRead done (pos n) = cond (eqb n 0) (Done (endBehind done)) (More (done + n))
+abbrev pub afterRead : ℕ → ℕ → ℤ → Progress
+afterRead done room (negsuc n) = Done Failed
+afterRead done room (pos n) = cond (eqb n 0) (Done (endBehind done)) (progressOf (done + n) room)
 
 -- how many of the bytes asked for a part holds, from the first on: an end or a failure gives none
 abbrev pub bytesIn : ℕ → Part → ℕ

@@ -3,7 +3,7 @@ ghost use mathlib.Core.Path.{_≡_};
 ghost use Prim.Native.Nat.{_-_, _≤_};
 ghost use lib.ListN.{length, take};
 ghost use Rattle.libc.specs.Io.{Moved};
-ghost use Rattle.streams.specs.Input.{mostParts, wasInterrupted, Behind, afterRead, Filled, Reads, bytesIn};
+ghost use Rattle.streams.specs.Input.{mostParts, wasInterrupted, Behind, progressOf, afterRead, Filled, Reads, bytesIn};
 use libc::STDIN_FILENO;
 
 // What became of a part that was asked for: all its bytes, the last few before the end, the end, or an input that can't be read.
@@ -74,16 +74,26 @@ fn read_behind(part: &mut [u8], done: usize) -> isize
     read_again(&mut part[done..])
 }
 
+// A part that has all its bytes is full.
+fn progress_of(done: usize, room: usize) -> Progress
+    ensures { λ r. ⌜ r ≡ progressOf done room ⌝ }
+{
+    if done == room {
+        return Progress::Done(Part::Full);
+    }
+    Progress::More(done)
+}
+
 fn after_read(done: usize, room: usize, got: isize) -> Progress
     requires { ⌜ done ≤ room ⌝ }
     requires { ⌜ Moved (room - done) got ⌝ }
-    ensures { λ r. ⌜ r ≡ afterRead done got ⌝ }
+    ensures { λ r. ⌜ r ≡ afterRead done room got ⌝ }
 {
     if got < 0 {
         return Progress::Done(Part::Failed);
     }
     if got > 0 {
-        return Progress::More(done + got as usize);
+        return progress_of(done + got as usize, room);
     }
     if done > 0 {
         return Progress::Done(Part::Short(done));
@@ -95,16 +105,17 @@ fn after_read(done: usize, room: usize, got: isize) -> Progress
 fn fill(part: &mut [u8]) -> Part
     ensures { λ r. ⌜ Filled (now (part .entry)) (now (part .exit)) r ⌝ }
 {
-    let mut done: usize = 0;
-    while done < part.len() {
-        let got = read_behind(part, done);
-        let next = after_read(done, part.len(), got);
-        match next {
-            Progress::More(n) => done = n,
+    let room = part.len();
+    let mut progress = progress_of(0, room);
+    loop {
+        match progress {
+            Progress::More(done) => {
+                let got = read_behind(part, done);
+                progress = after_read(done, room, got);
+            }
             Progress::Done(p) => return p,
         }
     }
-    Part::Full
 }
 
 // The next part, of as many bytes as are lent.

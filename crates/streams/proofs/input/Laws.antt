@@ -13,9 +13,10 @@ use mathlib.Core.List.{List}
 use borrow.Rule.Slice.PartMut.{midOf, putMid, same-len-mid, take-put}
 use lib.ListN.{length, length-take, length-drop}
 use Rattle.libc.specs.Io.{Moved}
-use Rattle.streams.specs.Input.{wasInterrupted, isNumber, Behind, endBehind, afterRead, Holds, Falls}
+use Rattle.streams.specs.Input.{wasInterrupted, isNumber, Behind, endBehind, progressOf, afterRead, Holds, Falls}
 use Rattle.streams.specs.declared.input.Part.{Part}
 use Rattle.streams.specs.declared.input.Part.the-variants.{Full, Short, End, Failed}
+use Rattle.streams.specs.declared.input.Progress.{Progress}
 use Rattle.streams.specs.declared.input.Progress.the-variants.{More, Done}
 
 -- ---- one answer
@@ -62,49 +63,65 @@ goes-behind done given read z y h same e m =
 
 -- ---- a part after it
 
-module _ (done : ℕ) where
-  pub it-fails : (z : ℤ) → ltZ z (pos 0) ≡ true → Done Failed ≡ afterRead done z
+module _ (done room : ℕ) where
+  pub it-fails : (z : ℤ) → ltZ z (pos 0) ≡ true → Done Failed ≡ afterRead done room z
   it-fails (pos n) h = let g = ltb-true n 0 h in absurd (omega arith)
   it-fails (negsuc n) h = refl
 
-  pub it-brings : (z : ℤ) → ltZ (pos 0) z ≡ true → More (done + natAbs z) ≡ afterRead done z
+  pub it-brings : (z : ℤ) → ltZ (pos 0) z ≡ true → progressOf (done + natAbs z) room ≡ afterRead done room z
   it-brings (pos n) h = let g = ltb-true 0 n h in rw (ne-eqb n 0 (λ e. omega arith))
   it-brings (negsuc n) h = absurd (true≢false (sym h))
 
   module _ (z : ℤ) (p : ltZ z (pos 0) ≡ false) (q : ltZ (pos 0) z ≡ false) where
-    it-ends : Done (endBehind done) ≡ afterRead done z
-    it-ends = ap (afterRead done) (sym (is-zero z p q))
+    it-ends : Done (endBehind done) ≡ afterRead done room z
+    it-ends = ap (afterRead done room) (sym (is-zero z p q))
 
-    pub ends-short : 0 < done → Done (Short done) ≡ afterRead done z
+    pub ends-short : 0 < done → Done (Short done) ≡ afterRead done room z
     ends-short h = rw (ne-eqb done 0 (λ e. omega arith)) at it-ends
 
-    pub ends-here : done ≤ 0 → Done End ≡ afterRead done z
+    pub ends-here : done ≤ 0 → Done End ≡ afterRead done room z
     ends-here h = rw (eq-eqb done 0 (omega arith)) at it-ends
 
 -- ---- a part of so many bytes
 
-module _ (done room : ℕ) (h : done < room) where
-  -- a read that brings bytes brings at least one, and no more than are free
-  pub grows : (z : ℤ) (n : ℕ) → More n ≡ afterRead done z → Moved (room - done) z → (done < n) × (n ≤ room)
-  grows (pos k) n e m = go (eqb k 0) refl e
-    where
-      go : (t : Bool) → eqb k 0 ≡ t → More n ≡ cond t (Done (endBehind done)) (More (done + k)) → (done < n) × (n ≤ room)
-      go true q f = let x : _≡_ {A = ℕ} 0 1 = cc in absurd (omega arith)
-      go false q f = let x : n ≡ done + k = cc in let y = eqb-false k 0 q in (omega arith, omega arith)
-  grows (negsuc k) n e m = let x : _≡_ {A = ℕ} 0 1 = cc in absurd (omega arith)
+-- a part that goes on has fewer bytes than were asked for
+abbrev pub Stands : ℕ → Progress → Type 0
+Stands room (More n) = n < room
+Stands room (Done p) = Holds room p
 
+abbrev pub toRead : ℕ → Progress → ℕ
+toRead room (More n) = room - n
+toRead room (Done p) = 0
+
+pub stands-at : (done room : ℕ) → done ≤ room → Stands room (progressOf done room)
+stands-at done room h = go (eqb done room) refl
+  where
+    go : (t : Bool) → eqb done room ≡ t → Stands room (cond t (Done Full) (More done))
+    go true q = tt
+    go false q = let y = eqb-false done room q in omega arith
+
+module _ (done room : ℕ) (h : done < room) where
   ends-with : (t : Bool) → eqb done 0 ≡ t → Holds room (cond t End (Short done))
   ends-with true q = tt
   ends-with false q = let y = eqb-false done 0 q in (omega arith, h)
 
-  -- what became of a part holds no more than its first bytes
-  pub became : (z : ℤ) (p : Part) → Done p ≡ afterRead done z → Holds room p
-  became (pos k) p e = go (eqb k 0) e
+  pub stands-after : (z : ℤ) → Moved (room - done) z → Stands room (afterRead done room z)
+  stands-after (pos k) m = go (eqb k 0)
     where
-      go : (t : Bool) → Done p ≡ cond t (Done (endBehind done)) (More (done + k)) → Holds room p
-      go true f = let x : endBehind done ≡ p = cc in subst (Holds room) x (ends-with (eqb done 0) refl)
-      go false f = let x : _≡_ {A = ℕ} 0 1 = cc in absurd (omega arith)
-  became (negsuc k) p e = let x : Failed ≡ p = cc in subst (Holds room) x tt
+      go : (t : Bool) → Stands room (cond t (Done (endBehind done)) (progressOf (done + k) room))
+      go true = ends-with (eqb done 0) refl
+      go false = stands-at (done + k) room (omega arith)
+  stands-after (negsuc k) m = tt
+
+  -- a read that the part goes on after brings at least one byte
+  pub fewer-to-read : (z : ℤ) → toRead room (afterRead done room z) < room - done
+  fewer-to-read (pos k) = go (eqb k 0) (eqb (done + k) room) refl
+    where
+      go : (t u : Bool) → eqb k 0 ≡ t → toRead room (cond t (Done (endBehind done)) (cond u (Done Full) (More (done + k)))) < room - done
+      go true u q = omega arith
+      go false true q = omega arith
+      go false false q = let y = eqb-false k 0 q in omega arith
+  fewer-to-read (negsuc k) = omega arith
 
 -- ---- parts
 

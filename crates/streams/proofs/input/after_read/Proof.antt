@@ -1,6 +1,7 @@
 use mathlib.Core.Path.{_≡_, sym, ap, subst, _∙_}
 use Prim.Native.Nat.{_-_, _≤_}
 use native.Mathlib.Omega.{arith}
+use borrow.Author.Needs.{needs}
 use lib.IntN.{ℤ, natAbs}
 use mir.Syntax.{w64}
 use mir.Val.{toZ, ofZ}
@@ -19,8 +20,8 @@ back : (c : tie.Start) → answer c ≡ c .args .got
 back c = toZ-ofZ w64 (c .args .got) (c .fits .got)
 
 -- a part that goes on so after what is read back goes on so after the answer
-likewise : (c : tie.Start) → afterRead (c .args .done) (answer c) ≡ afterRead (c .args .done) (c .args .got)
-likewise c = ap (afterRead (c .args .done)) (back c)
+likewise : (c : tie.Start) → let a = c .args in afterRead (a .done) (a .room) (answer c) ≡ afterRead (a .done) (a .room) (a .got)
+likewise c = ap (afterRead (c .args .done) (c .args .room)) (back c)
 
 -- it brings no more than are free
 brought : (c : tie.Then2) → let s = c .before .before in natAbs (answer s) ≤ s .args .room - s .args .done
@@ -30,26 +31,29 @@ brought c =
     within (answer s) room (subst (Moved room) (sym (back s)) (s .pre .1)) (c .if2 .taken)
 
 returns : tie.Need-returns
-returns c = it-fails (c .before .args .done) (answer (c .before)) (c .if1 .taken) ∙ likewise (c .before)
+returns c = let s = c .before in it-fails (s .args .done) (s .args .room) (answer s) (c .if1 .taken) ∙ likewise s
 
-cast-t6 : tie.Need-cast-t6
-cast-t6 c = (not-negative (answer (c .before .before)) (c .if2 .taken), record { fits = omega (arith, brought c, c .before .before .fits .room .fits) })
+cast-progress-of : tie.Need-cast-progress-of
+cast-progress-of c = (not-negative (answer (c .before .before)) (c .if2 .taken), record { fits = omega (arith, brought c, c .before .before .fits .room .fits) })
 
-add-t7 : tie.Need-add-t7
-add-t7 c = record { fits = omega (arith, brought c, c .before .before .pre .0, c .before .before .fits .room .fits) }
+add-progress-of : tie.Need-add-progress-of
+add-progress-of c = record { fits = omega (arith, brought c, c .before .before .pre .0, c .before .before .fits .room .fits) }
+
+progress-of-requires : tie.Need-progress-of-requires
+progress-of-requires c κs = search needs
 
 returns-2 : tie.Need-returns-2
-returns-2 c = it-brings (c .before .before .args .done) (answer (c .before .before)) (c .if2 .taken) ∙ likewise (c .before .before)
+returns-2 c = let s = c .before .before .before in c .progress-of .ensures ∙ it-brings (s .args .done) (s .args .room) (answer s) (c .before .if2 .taken) ∙ likewise s
 
 returns-3 : tie.Need-returns-3
 returns-3 c =
-    ends-short (c .before .before .before .args .done) (answer (c .before .before .before)) (c .before .before .if1 .left) (c .before .if2 .left) (c .if3 .taken)
-    ∙ likewise (c .before .before .before)
+    let s = c .before .before .before in
+    ends-short (s .args .done) (s .args .room) (answer s) (c .before .before .if1 .left) (c .before .if2 .left) (c .if3 .taken) ∙ likewise s
 
 returns-4 : tie.Need-returns-4
 returns-4 c =
-    ends-here (c .before .before .before .args .done) (answer (c .before .before .before)) (c .before .before .if1 .left) (c .before .if2 .left) (c .if3 .left)
-    ∙ likewise (c .before .before .before)
+    let s = c .before .before .before in
+    ends-here (s .args .done) (s .args .room) (answer s) (c .before .before .if1 .left) (c .before .if2 .left) (c .if3 .left) ∙ likewise s
 
 pub after-read-spec : {M : Type 1} → statement M
-after-read-spec = tie.close (tie.spec returns cast-t6 add-t7 returns-2 returns-3 returns-4)
+after-read-spec = tie.close (tie.spec returns cast-progress-of add-progress-of progress-of-requires returns-2 returns-3 returns-4)
