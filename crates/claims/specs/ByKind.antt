@@ -1,5 +1,5 @@
 -- What entered and what was handled, by the numbers of the kinds (document 01, "Treatment and report"; document 02, (b)). The sums of the other claims go by what a post
--- moves; these go by its bytes alone, so that no claim rests on the table of the kinds.
+-- moves; these go by its fields and the number of its kind, and are read beside the paper without the table of the kinds.
 use Prim.Native.Nat.{ℕ, _+_, _*_}
 use mathlib.Core.Path.{_≡_}
 use mathlib.Core.Bool.{cond, _||_}
