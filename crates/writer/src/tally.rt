@@ -40,12 +40,7 @@ pub fn fresh() -> Tally
     ensures { λ r. ⌜ r ≡ freshTally ⌝ }
 {
     Tally {
-        outline: Outline {
-            substances: 0,
-            materials: 0,
-            stages: 0,
-            described: 0,
-        },
+        outline: outline::fresh(),
         waiting: 0,
         blocks: 0,
     }
