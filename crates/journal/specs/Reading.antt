@@ -2,7 +2,7 @@
 use Prim.Native.Nat.{ℕ, suc, _-_, _<_}
 use mathlib.Core.Path.{_≡_}
 use mathlib.Core.Bool.{Bool, true, false}
-use mathlib.Core.List.{List, [], _∷_}
+use mathlib.Core.List.{List}
 use Rattle.amounts.specs.Decline.{Answer, taken, declined}
 use Rattle.book.specs.Block.{blockOn}
 use Rattle.book.specs.Site.{freshBook}
@@ -41,10 +41,6 @@ fedWhile (By d) b part = record { book = b; stopped = By d }
 
 abbrev pub fed : state.Reading → List ℕ → state.Reading
 fed r part = fedWhile (r .stopped) (r .book) part
-
-unfoldable pub fedAll : state.Reading → List (List ℕ) → state.Reading
-fedAll r [] = r
-fedAll r (part ∷ parts) = fedAll (fed r part) parts
 
 -- "At the first decline it stops"
 abbrev pub isDecline : Stopped → Bool

@@ -4,14 +4,7 @@ use mathlib.Core.Bool.{true, false}
 use mathlib.Core.List.{List, [], _∷_, _++_}
 use Prim.Native.Nat.{ℕ}
 use native.Mathlib.Omega.{arith}
-use Rattle.amounts.specs.Decline.{taken, declined, Check, check, checked, onTaken}
-
--- a table after another
-pub checked-append : {A B : Type 0} (xs ys : List Check) (a : A) (b : B) → checked (xs ++ ys) a ≡ onTaken (checked xs b) (λ _. checked ys a)
-unfolding checked
-checked-append [] ys a b = refl
-checked-append (check true n ∷ xs) ys a b = checked-append xs ys a b
-checked-append (check false n ∷ xs) ys a b = refl
+use Rattle.amounts.specs.Decline.{taken, Check, check, checked}
 
 abbrev pub AllPass : List Check → Type 0
 AllPass [] = Unit
@@ -34,10 +27,3 @@ pub pass-taken : {A : Type 0} (rows : List Check) (a : A) → AllPass rows → c
 unfolding checked
 pass-taken [] a h = refl
 pass-taken (check t n ∷ rows) a h = rw (h .0) (pass-taken rows a (h .1))
-
--- a table that declines does so whatever it was given
-pub same-decline : {A B : Type 0} (rows : List Check) (a : A) (b : B) (n : ℕ) → checked rows a ≡ declined n → checked rows b ≡ declined n
-unfolding checked
-same-decline [] a b n e = let z : _≡_ {A = ℕ} 0 1 = cc in absurd (omega arith)
-same-decline (check true m ∷ rows) a b n e = same-decline rows a b n e
-same-decline (check false m ∷ rows) a b n e = cc

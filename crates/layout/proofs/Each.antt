@@ -57,12 +57,6 @@ sum-mono k (suc n) f h = go (ℕ-discrete k (suc n)) (sum-mono k n f)
     go (yes e) before = rw e (omega arith)
     go (no d) before = omega (arith, before (omega arith))
 
--- sums are added term by term
-pub sum-add : (n : ℕ) (f g : ℕ → ℕ) → sumTo n (λ i. f i + g i) ≡ sumTo n f + sumTo n g
-unfolding sumTo
-sum-add zero f g = omega arith
-sum-add (suc n) f g = omega (arith, sum-add n f g)
-
 -- ---- what holds of each
 
 pub and-true : (x y : Bool) → (x && y) ≡ true → (x ≡ true) × (y ≡ true)

@@ -1,12 +1,23 @@
 // How far a book's set-up has come: the counts that turns and limits go by.
 ghost use mathlib.Core.Path.{_≡_};
-ghost use Rattle.layout.specs.Outline.{maySetUp, mayDescribe, mayPost};
+ghost use Rattle.layout.specs.Outline.{freshOutline, maySetUp, mayDescribe, mayPost};
 
 pub struct Outline {
     pub substances: u8,
     pub materials: u8,
     pub stages: u8,
     pub described: u8,
+}
+
+pub fn fresh() -> Outline
+    ensures { λ r. ⌜ r ≡ freshOutline ⌝ }
+{
+    Outline {
+        substances: 0,
+        materials: 0,
+        stages: 0,
+        described: 0,
+    }
 }
 
 pub fn may_set_up(o: Outline) -> bool

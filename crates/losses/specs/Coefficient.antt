@@ -8,7 +8,7 @@ use Rattle.losses.specs.Binary64.{decimal}
 use Rattle.amounts.specs.Decline.{Answer, taken, declined, noRow}
 use Rattle.losses.specs.declared.coefficient.CoefficientRow.{CoefficientRow}
 use Rattle.losses.specs.declared.coefficient.Entry.{Entry}
-use Rattle.losses.specs.declared.coefficient.Found.{Found}
+use Rattle.losses.specs.declared.coefficient.RowRead.{RowRead}
 
 abbrev pub entry : ℕ → Float → Float → Entry
 entry n k m = record { number = n; row = record { k = k; m = m } }
@@ -37,5 +37,5 @@ unfolding find rows
 rowOf n = find n rows
 
 -- what the code's answer stands for: a row where one is known, decline 8 otherwise
-unfoldable pub answer : Found → Answer CoefficientRow
+unfoldable pub answer : RowRead → Answer CoefficientRow
 answer f = rowIf (eqb (f .known) 1) (f .row) (declined noRow)

@@ -5,16 +5,11 @@ use mathlib.Core.List.{[], _∷_}
 use lib.Dec.{eqb}
 use lib.Ieee.{Float}
 use Rattle.amounts.specs.Decline as decline
-use Rattle.amounts.specs.Decline.{Answer, taken, declined, check, checked, isTaken, layout}
-use Rattle.losses.specs.Pattern.{_to_, inRange, Upward}
+use Rattle.amounts.specs.Decline.{Answer, declined, check, checked, isTaken, layout}
+use Rattle.losses.specs.Pattern.{_to_, inRange}
 use Rattle.losses.specs.declared.form.Ranges.{Ranges}
-use Rattle.losses.specs.declared.form.Inputs.{Inputs}
-use Rattle.losses.specs.declared.form.InputsRead.{InputsRead}
-use Rattle.losses.specs.declared.form.InputsRead.the-variants as read
 use Rattle.losses.specs.declared.form.LossForm.{LossForm}
 use Rattle.losses.specs.declared.form.LossForm.the-variants.{FloatingRoof, FixedRoof, Station}
-use Rattle.losses.specs.declared.form.FormRead.{FormRead}
-use Rattle.losses.specs.declared.form.FormRead.the-variants.{Form, Declined}
 
 -- "w diameter in m, 1 to 1,000; u content in weight percent, 0 to 100; p kL drawn, 0 to 10^9; q is zero"
 abbrev pub floatingRanges : Ranges
@@ -52,21 +47,3 @@ formOf n w u p q =
 unfoldable pub inForm : ℕ → Float → Float → Float → Float → Bool
 unfolding formOf
 inForm n w u p q = isTaken (formOf n w u p q)
-
--- the four floats of a form
-unfoldable pub inputsOf : Ranges → Float → Float → Float → Float → Answer Inputs
-unfolding ranged
-inputsOf r w u p q = ranged r w u p q (record { w = w; u = u; p = p; q = q })
-
--- what each case of the code's answers stands for
-abbrev pub answer : FormRead → Answer LossForm
-answer (Form form) = taken form
-answer (Declined d) = declined (d .number)
-
-abbrev pub inputsAnswer : InputsRead → Answer Inputs
-inputsAnswer (read.Values x) = taken x
-inputsAnswer (read.Declined d) = declined (d .number)
-
--- each of four ranges starts at 0 or above and has an end
-abbrev pub AllUpward : Ranges → Type 0
-AllUpward r = Upward (r .w) × (Upward (r .u) × (Upward (r .p) × Upward (r .q)))

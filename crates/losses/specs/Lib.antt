@@ -4,3 +4,4 @@ pub mod Coefficient
 pub mod Form
 pub mod Whole
 pub mod Loss
+pub mod Steps

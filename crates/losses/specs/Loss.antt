@@ -12,8 +12,6 @@ use Rattle.losses.specs.Whole.{wholePart}
 use Rattle.losses.specs.declared.coefficient.CoefficientRow.{CoefficientRow}
 use Rattle.losses.specs.declared.form.LossForm.{LossForm}
 use Rattle.losses.specs.declared.form.LossForm.the-variants.{FloatingRoof, FixedRoof, Station}
-use Rattle.losses.specs.declared.loss.Kg.{Kg}
-use Rattle.losses.specs.declared.loss.Kg.the-variants as kg
 use Rattle.losses.specs.declared.loss.Loss as loss
 use Rattle.losses.specs.declared.loss.Loss.the-variants.{Micrograms, Declined}
 
@@ -59,11 +57,7 @@ unfoldable pub vapourOf : ℕ → ℕ → Float → Float → Float → Float �
 unfolding lossOver
 vapourOf form number w u p q = cond (leb 1 number) (lossOver form (rowOf number) w u p q) (declined layout)
 
--- what each case of the code's answers stands for
-abbrev pub kgAnswer : Kg → Answer Float
-kgAnswer (kg.Value x) = taken x
-kgAnswer (kg.Declined d) = declined (d .number)
-
+-- what each case of the code's answer stands for
 abbrev pub answer : loss.Loss → Answer ℕ
 answer (Micrograms n) = taken n
 answer (Declined d) = declined (d .number)

@@ -1,11 +1,9 @@
 -- A float and its range (document 01, "Vapour losses", and decline 7).
-use Prim.Native.Nat.{ℕ, _<_}
-use mathlib.Core.Bool.{Bool, false, _&&_}
+use Prim.Native.Nat.{ℕ}
+use mathlib.Core.Bool.{Bool, _&&_}
 use mathlib.Core.List.{[], _∷_}
-use mathlib.Core.Path.{_≡_}
-use lib.IntN.{ℤ}
-use lib.Ieee.{Float, fin, le}
-use Rattle.losses.specs.Binary64.{whole, finite, valueOf}
+use lib.Ieee.{Float, le}
+use Rattle.losses.specs.Binary64.{whole, finite}
 use Rattle.amounts.specs.Decline as decline
 use Rattle.amounts.specs.Decline.{Answer, taken, declined, check, checked}
 use Rattle.losses.specs.declared.pattern.Range.{Range}
@@ -28,12 +26,3 @@ readingOf range x = checked (check (inRange range x) decline.range ∷ []) x
 abbrev pub answer : FloatRead → Answer Float
 answer (Value x) = taken x
 answer (Declined d) = declined (d .number)
-
--- a range that starts at 0 or above, and whose end is the value of a finite pattern without a sign
-pub record Upward (range : Range) : Type 0 where
-  pub digits : ℕ
-  pub exponent : ℤ
-  pub start : range .low ≡ fin false digits exponent
-  pub most : ℕ
-  pub under : most < 0x7ff0_0000_0000_0000
-  pub end : range .high ≡ valueOf most

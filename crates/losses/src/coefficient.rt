@@ -14,7 +14,7 @@ pub struct Entry {
 }
 
 // A row, and whether it is one of the table's. The flag is as wide as a float, so that no byte is unused and each field is copied by itself.
-pub struct Found {
+pub struct RowRead {
     pub known: u64,
     pub row: CoefficientRow,
 }
@@ -22,7 +22,7 @@ pub struct Found {
 pub const KNOWN: u64 = 1;
 
 // No row: its floats are never read.
-pub const NOT_FOUND: Found = Found {
+pub const NOT_FOUND: RowRead = RowRead {
     known: 0,
     row: CoefficientRow { k: 0.0, m: 0.0 },
 };
@@ -68,7 +68,7 @@ const ROWS: [Entry; 5] = [
 
 // The row of a number. All rows are gone through, the first last, so that of two with the number the first would stand. Its place is kept and not the
 // row, so that no jump hangs on which row it is.
-pub fn row_of(number: u16) -> Found
+pub fn row_of(number: u16) -> RowRead
     ensures { λ r. ⌜ answer r ≡ rowOf number ⌝ }
 {
     let mut place = 5usize;
@@ -85,5 +85,5 @@ pub fn row_of(number: u16) -> Found
     }
     let e = ROWS[place];
     let row = e.row;
-    Found { known: KNOWN, row }
+    RowRead { known: KNOWN, row }
 }

@@ -4,10 +4,11 @@ ghost use lib.Ieee.{Float};
 ghost use Rattle.losses.specs.Binary64.{valueOf};
 ghost use Rattle.losses.specs.Coefficient as coefficients;
 ghost use Rattle.losses.specs.Form.{inForm};
-ghost use Rattle.losses.specs.Loss.{floatingRoofKg, fixedRoofKg, stationKg, kgOf, limitedOf, lossOf, lossOver, vapourOf, kgAnswer, answer};
+ghost use Rattle.losses.specs.Loss.{floatingRoofKg, fixedRoofKg, stationKg, kgOf, limitedOf, lossOf, lossOver, vapourOf, answer};
+ghost use Rattle.losses.specs.Steps.{kgAnswer};
 use crate::coefficient;
 use crate::coefficient::CoefficientRow;
-use crate::coefficient::Found;
+use crate::coefficient::RowRead;
 use crate::form;
 use crate::form::FormRead;
 use crate::form::LossForm;
@@ -44,7 +45,7 @@ fn station_kg(w: f64, u: f64, p: f64, q: f64) -> f64
 }
 
 // The loss of a form in kg, over the row that was found for its substance.
-fn loss_kg(form: LossForm, found: Found) -> Kg
+fn loss_kg(form: LossForm, found: RowRead) -> Kg
     ensures { λ r. ⌜ kgAnswer r ≡ kgOf form (coefficients.answer found) ⌝ }
 {
     match form {
@@ -91,7 +92,7 @@ fn limited(kg: f64) -> Loss
 }
 
 // The loss of a form in micrograms, over the row that was found for its substance.
-fn loss_of(form: LossForm, found: Found) -> Loss
+fn loss_of(form: LossForm, found: RowRead) -> Loss
     ensures { λ r. ⌜ answer r ≡ lossOf form (coefficients.answer found) ⌝ }
 {
     match loss_kg(form, found) {
@@ -101,7 +102,7 @@ fn loss_of(form: LossForm, found: Found) -> Loss
 }
 
 // The loss of a form's number and four bit patterns, over the row that was found for its substance; a station needs none.
-pub fn loss_over(form: u8, found: Found, w: u64, u: u64, p: u64, q: u64) -> Loss
+pub fn loss_over(form: u8, found: RowRead, w: u64, u: u64, p: u64, q: u64) -> Loss
     ensures { λ r. ⌜ answer r ≡ lossOver form (coefficients.answer found) (valueOf w) (valueOf u) (valueOf p) (valueOf q) ⌝ }
 {
     match form::read_form(form, w, u, p, q) {
@@ -121,7 +122,7 @@ pub fn in_form(form: u8, w: u64, u: u64, p: u64, q: u64) -> bool
 }
 
 // The row over which a form's loss is that of the number: a station needs none, so that none is looked for.
-fn row_for(form: u8, number: u16) -> Found
+fn row_for(form: u8, number: u16) -> RowRead
     ensures { λ r. ⌜ ((w u p q : Float) → lossOver form (coefficients.answer r) w u p q ≡ lossOver form (coefficients.rowOf number) w u p q) ⌝ }
 {
     if form == 3 {

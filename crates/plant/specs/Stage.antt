@@ -53,21 +53,21 @@ ratesAt s =
 abbrev pub rateRow : List ℕ → ℕ → Rates
 rateRow s i = ratesAt (drop (i * 17) s)
 
--- ".. to 1,000,000"
-abbrev pub ratesFit : Answer Bool → Rates → Bool
-ratesFit side r =
+-- "side (1 gas, 2 water)", and rates "to 1,000,000"
+abbrev pub pairFits : Answer Bool → Rates → Bool
+pairFits side r =
     isTaken side
     && (isPpm (r .«gas_removal») && (isPpm (r .«gas_destruction») && (isPpm (r .«water_removal») && isPpm (r .«water_destruction»))))
 
-abbrev pub allRatesFit : ℕ → List ℕ → Bool
-allRatesFit n s = allTo n (λ i. ratesFit (sideRow s i) (rateRow s i))
+abbrev pub allPairsFit : ℕ → List ℕ → Bool
+allPairsFit n s = allTo n (λ i. pairFits (sideRow s i) (rateRow s i))
 
 -- 6: "8: 1 public water, 2 sewer. 9: residues 1 off site, 2 landfill. From 10, 17 bytes per substance"; all other bytes are zero
 abbrev pub stageBodyChecks : ℕ → List ℕ → List Check
 stageBodyChecks substances body =
     check (isTaken (waterIn body)) layout
     ∷ check (isTaken (residueIn body)) layout
-    ∷ check (allRatesFit substances (drop 2 body)) layout
+    ∷ check (allPairsFit substances (drop 2 body)) layout
     ∷ check (allZero (drop (2 + substances * 17) body)) layout
     ∷ []
 

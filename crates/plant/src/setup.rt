@@ -55,12 +55,7 @@ pub fn fresh_setup() -> Setup
     ensures { λ r. ⌜ r ≡ freshSetup ⌝ }
 {
     Setup {
-        outline: Outline {
-            substances: 0,
-            materials: 0,
-            stages: 0,
-            described: 0,
-        },
+        outline: outline::fresh(),
         numbers: [0; 8],
         classes: [0; 8],
         counted: [0; 96],

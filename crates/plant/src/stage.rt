@@ -8,7 +8,7 @@ ghost use Rattle.layout.specs.Each.{putTo};
 ghost use Rattle.layout.specs.Verdict.{verdictOf};
 ghost use Rattle.plant.specs.Setup.{setupEnd};
 ghost use Rattle.plant.specs.Stage.{secondOf, waterRow, rateRow, withStage, describedOn};
-ghost use Rattle.plant.specs.Stage.{ratesAt, ratesFit, allRatesFit, stageBodyChecks, stageChecks};
+ghost use Rattle.plant.specs.Stage.{ratesAt, pairFits, allPairsFit, stageBodyChecks, stageChecks};
 use crate::setup::NO_RATES;
 use crate::setup::Rates;
 use crate::setup::Setup;
@@ -42,8 +42,8 @@ pub fn rates_at(s: &[u8], at: usize) -> Rates
     }
 }
 
-fn rates_fit(side: u8, r: Rates) -> bool
-    ensures { λ x. ⌜ x ≡ ratesFit (secondOf side) r ⌝ }
+fn pair_fits(side: u8, r: Rates) -> bool
+    ensures { λ x. ⌜ x ≡ pairFits (secondOf side) r ⌝ }
 {
     if !bytes::is_within(1, 2, side) {
         return false;
@@ -60,13 +60,13 @@ fn rates_fit(side: u8, r: Rates) -> bool
     r.water_destruction <= 1_000_000
 }
 
-fn all_rates_fit(s: &[u8], n: u8) -> bool
-    ensures { λ r. ⌜ r ≡ allRatesFit n (now (s .entry)) ⌝ }
+fn all_pairs_fit(s: &[u8], n: u8) -> bool
+    ensures { λ r. ⌜ r ≡ allPairsFit n (now (s .entry)) ⌝ }
 {
     let end = n as usize;
     let mut i: usize = 0;
     while i < end {
-        if !rates_fit(bytes::byte_at(s, i * 17), rates_at(s, i * 17)) {
+        if !pair_fits(bytes::byte_at(s, i * 17), rates_at(s, i * 17)) {
             return false;
         }
         i += 1;
@@ -79,15 +79,15 @@ fn checked_body(substances: u8, body: &[u8]) -> Verdict
 {
     let end = bytes::zero_from(body, 2 + (substances as usize) * 17);
     let zeros = row(end, decline::LAYOUT, Verdict::Accepted);
-    let rates = row(
-        all_rates_fit(bytes::tail(body, 2), substances),
+    let pairs = row(
+        all_pairs_fit(bytes::tail(body, 2), substances),
         decline::LAYOUT,
         zeros,
     );
     let residue = row(
         bytes::is_within(1, 2, bytes::byte_at(body, 1)),
         decline::LAYOUT,
-        rates,
+        pairs,
     );
     row(
         bytes::is_within(1, 2, bytes::byte_at(body, 0)),

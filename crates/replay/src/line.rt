@@ -34,12 +34,12 @@ fn headings(o: Output, h: Headings) -> Output {
     field(o, h.offsite)
 }
 
-fn amounts(o: Output, l: Fate) -> Output {
-    let o = field(o, l.held);
-    let o = field(o, l.shipped);
-    let o = field(o, l.consumed);
-    let o = field(o, l.destroyed);
-    let h = l.headings;
+fn amounts(o: Output, fate: Fate) -> Output {
+    let o = field(o, fate.held);
+    let o = field(o, fate.shipped);
+    let o = field(o, fate.consumed);
+    let o = field(o, fate.destroyed);
+    let h = fate.headings;
     headings(o, h)
 }
 
@@ -55,14 +55,14 @@ fn yes_no(o: Output, due: bool) -> Output {
 }
 
 fn known(o: Output, r: Report) -> Output {
-    let l = r.fate;
+    let fate = r.fate;
     let f = r.filed;
     let o = field(o, r.posts as u64);
     let o = field(o, r.number as u64);
     let o = field(o, r.handled);
     let o = yes_no(o, r.due);
     let o = field(o, r.store);
-    let o = filing(amounts(o, l), f);
+    let o = filing(amounts(o, fate), f);
     text(o, b"\n")
 }
 

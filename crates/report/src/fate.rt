@@ -175,7 +175,7 @@ fn add_fates(x: Fate, y: Fate) -> Fate
     }
 }
 
-const NO_LINE: Fate = Fate {
+const NO_FATE: Fate = Fate {
     held: 0,
     shipped: 0,
     consumed: 0,
@@ -196,7 +196,7 @@ pub(crate) fn fate_to(sums: &[u64; 576], setup: Setup, s: usize) -> Fate
     requires { ⌜ (s < 8) × (total (now sums) s < 2 ^ 64) ⌝ }
     ensures { λ r. ⌜ r ≡ fateTo (now (sums .entry)) setup s 8 ⌝ }
 {
-    let mut acc = NO_LINE;
+    let mut acc = NO_FATE;
     let mut k: usize = 0;
     while k < 8 {
         let fate = stage_fate(sums, setup, s, k);

@@ -1,5 +1,5 @@
 -- A text written into a lent buffer at a place.
-use Prim.Native.Nat.{ℕ, _+_, _≤_}
+use Prim.Native.Nat.{ℕ, _+_}
 use mathlib.Core.Path.{_≡_}
 use mathlib.Core.Bool.{cond}
 use mathlib.Core.List.{List}
@@ -8,15 +8,6 @@ use lib.ListN.{length}
 use Rattle.layout.specs.Bytes.{written}
 use Rattle.text.specs.declared.writing.Written.{Written}
 use Rattle.text.specs.declared.writing.Written.the-variants.{At, NoRoom}
-
--- the text ends within the buffer
-pub record Room (l : List ℕ) (at : ℕ) (text : List ℕ) : Type 0 where
-  pub within : at + length text ≤ length l
-
--- the buffer l became m, with the text at the place, and the next place is answered
-pub record Puts (l : List ℕ) (at : ℕ) (text m : List ℕ) (r : ℕ) : Type 0 where
-  pub text-in : m ≡ written l at text
-  pub next : r ≡ at + length text
 
 -- what stands in the buffer after a call that writes only where so many bytes are free, and what it answers
 unfoldable pub triedIn : ℕ → List ℕ → ℕ → List ℕ → List ℕ

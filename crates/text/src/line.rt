@@ -4,7 +4,7 @@ ghost use Prim.Native.Nat.{_+_, _≤_};
 ghost use lib.ListN.{length};
 ghost use Rattle.report.specs.declared.report.Filing.the-variants.{Figures};
 ghost use Rattle.text.specs.Line.{yesNo, filingText, lineText, refusedText};
-ghost use Rattle.text.specs.Writing.{Room, Puts};
+ghost use Rattle.text.specs.Steps.{Room, Puts};
 use crate::number::put_decimal;
 use crate::number::put_field;
 use crate::number::put_heading;

@@ -3,7 +3,7 @@ ghost use mathlib.Core.Path.{_≡_};
 ghost use mathlib.Core.List.{_∷_};
 ghost use Prim.Native.Nat.{_<_};
 ghost use Rattle.text.specs.Number.{space, digit, decimal, figureText};
-ghost use Rattle.text.specs.Writing.{Room, Puts};
+ghost use Rattle.text.specs.Steps.{Room, Puts};
 use crate::writing::put_byte;
 
 // In micrograms.

@@ -25,9 +25,9 @@ use post::moves;
 
 // The outline of the set-up blocks that are written, the posts that wait for their block, and the blocks that are written.
 pub struct Tally {
-    pub outline: Outline,
-    pub waiting: usize,
-    pub blocks: u32,
+    pub(crate) outline: Outline,
+    pub(crate) waiting: usize,
+    pub(crate) blocks: u32,
 }
 
 // What a call answers, and how far the writer has come after it.
@@ -40,12 +40,7 @@ pub fn fresh() -> Tally
     ensures { λ r. ⌜ r ≡ freshTally ⌝ }
 {
     Tally {
-        outline: Outline {
-            substances: 0,
-            materials: 0,
-            stages: 0,
-            described: 0,
-        },
+        outline: outline::fresh(),
         waiting: 0,
         blocks: 0,
     }

@@ -22,12 +22,3 @@ one-declined false n a m e = (refl, cc)
 pub was-taken : {A B : Type 0} (x : Answer A) (next : A → Answer B) (b : B) → onTaken x next ≡ taken b → (a : A) × (x ≡ taken a) × (next a ≡ taken b)
 was-taken (taken a) next b e = (a, refl, e)
 was-taken (declined n) next b e = let z : _≡_ {A = ℕ} 0 1 = cc in absurd (omega arith)
-
--- two ways on from an answer that agree where it is taken
-pub on-taken : {A B : Type 0} (x : Answer A) (f g : A → Answer B) → ((a : A) → x ≡ taken a → f a ≡ g a) → onTaken x f ≡ onTaken x g
-on-taken (taken a) f g same = same a refl
-on-taken (declined n) f g same = refl
-
-pub only-taken : {A : Type 0} (x : Answer A) → onTaken x taken ≡ x
-only-taken (taken a) = refl
-only-taken (declined n) = refl

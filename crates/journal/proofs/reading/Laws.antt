@@ -21,7 +21,7 @@ use Rattle.text.specs.Line.{refusedText}
 use Rattle.text.specs.Print.{returnText}
 use Rattle.text.specs.Writing.{Tries}
 use Rattle.text.specs.declared.writing.Written.{Written}
-use Rattle.journal.specs.Reading.{outcomeText, printedOf, started, afterBlock, fedWhile, fed, fedAll, textWhile, textOf}
+use Rattle.journal.specs.Reading.{outcomeText, printedOf, started, afterBlock, fedWhile, fed, textWhile, textOf}
 use Rattle.journal.specs.declared.reading.Reading.{Reading}
 use Rattle.journal.specs.declared.reading.Stopped.{Stopped}
 use Rattle.journal.specs.declared.reading.Stopped.the-variants.{No, By}
@@ -46,6 +46,10 @@ module _ (r : Reading) (part : List ℕ) where
         ∙ goes-on (declined (d .number)) n
 
 -- ---- all parts
+
+unfoldable pub fedAll : Reading → List (List ℕ) → Reading
+fedAll r [] = r
+fedAll r (part ∷ parts) = fedAll (fed r part) parts
 
 -- after a decline nothing changes
 pub stays-all : (b : Book) (d : Decline) (parts : List (List ℕ)) → fedAll (record { book = b; stopped = By d }) parts ≡ record { book = b; stopped = By d }

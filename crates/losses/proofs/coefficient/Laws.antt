@@ -3,12 +3,12 @@ use mathlib.Core.Path.{_≡_}
 use borrow.Author.Tests.{eq-eqb, ne-eqb}
 use Rattle.losses.specs.Coefficient.{answer}
 use Rattle.amounts.specs.Decline.{taken, declined, noRow}
-use Rattle.losses.specs.declared.coefficient.Found.{Found}
+use Rattle.losses.specs.declared.coefficient.RowRead.{RowRead}
 
-pub is-known : (f : Found) → f .known ≡ 1 → answer f ≡ taken (f .row)
+pub is-known : (f : RowRead) → f .known ≡ 1 → answer f ≡ taken (f .row)
 unfolding answer
 is-known f e = rw (eq-eqb (f .known) 1 e)
 
-pub is-unknown : (f : Found) → (f .known ≡ 1 → ⊥) → answer f ≡ declined noRow
+pub is-unknown : (f : RowRead) → (f .known ≡ 1 → ⊥) → answer f ≡ declined noRow
 unfolding answer
 is-unknown f e = rw (ne-eqb (f .known) 1 e)

@@ -10,8 +10,8 @@ use lib.IntN.{pos}
 use lib.Ieee.{Float, fin, ofBits, round}
 use Rattle.losses.specs.Binary64.{valueOf}
 use Rattle.amounts.specs.Decline.{Answer, taken, declined, isTaken, check, checked, onTaken, layout, range}
-use Rattle.losses.specs.Form.{floatingRanges, fixedRanges, stationRanges, inRanges, ranged, formOf, inForm, inputsOf, inputsAnswer, AllUpward}
-use Rattle.losses.specs.Pattern.{Upward}
+use Rattle.losses.specs.Form.{floatingRanges, fixedRanges, stationRanges, inRanges, ranged, formOf, inForm}
+use Rattle.losses.specs.Steps.{Upward, AllUpward, inputsOf, inputsAnswer}
 use Rattle.losses.specs.declared.form.Inputs.{Inputs}
 use Rattle.losses.specs.declared.form.InputsRead.{InputsRead}
 use Rattle.losses.specs.declared.form.LossForm.{LossForm}

@@ -16,7 +16,8 @@ use lib.Ieee.Order.{transfer, le-of-values}
 use lib.Ieee.Positive.{first-pos}
 use borrow.Author.Tests.{eq-eqb, ne-eqb, le-ltb, lt-leb, eqb-true, leb-true, leb-false, ltb-true, ltb-false}
 use Rattle.losses.specs.Binary64.{finite, valueOf}
-use Rattle.losses.specs.Pattern.{inRange, Upward}
+use Rattle.losses.specs.Pattern.{inRange}
+use Rattle.losses.specs.Steps.{Upward}
 use Rattle.losses.specs.declared.pattern.Range.{Range}
 use Rattle.losses.proofs.pattern.Laws.{not-finite, no-nan}
 

@@ -2,9 +2,10 @@
 use mathlib.Core.Path.{_≡_, sym, ap, _∙_}
 use mathlib.Core.Bool.{Bool, true, false}
 use mathlib.Core.List.{List}
+use Rattle.layout.specs.Outline.{freshOutline}
 use Rattle.layout.specs.declared.outline.Outline.{Outline}
 use Rattle.plant.specs.declared.setup.Setup.{Setup}
-use Rattle.plant.specs.Setup.{noRates, numbersIn, classesIn, contentsIn, countedAll, outlineOf, setupOf, numberAt, before, rising}
+use Rattle.plant.specs.Setup.{noRates, numbersIn, classesIn, contentsIn, countedAll, outlineOf, freshSetup, setupOf, numberAt, before, rising}
 use Prim.Native.Nat.{ℕ, _+_, _*_, _≤_, _<_}
 use native.Mathlib.Numerals.{add-one}
 use native.Mathlib.Omega.{arith}
@@ -57,6 +58,9 @@ read outline numbers classes counted =
       «to_water» = replicate 64 false;
       rates = replicate 64 noRates;
     }
+
+pub fresh-read : (outline : Outline) → outline ≡ freshOutline → read outline (replicate 8 0) (replicate 8 0) (replicate 96 0) ≡ freshSetup
+fresh-read outline o = ap (λ (x : Outline). read x (replicate 8 0) (replicate 8 0) (replicate 96 0)) o
 
 pub parsed : (count : ℕ) (outline : Outline) (body numbers classes contents counted : List ℕ) → outline ≡ outlineOf count body
     → numbers ≡ numbersIn body → classes ≡ classesIn body → contents ≡ contentsIn body → counted ≡ countedAll classes contents

@@ -11,14 +11,14 @@ use Rattle.amounts.specs.Content.{isPpm}
 use Rattle.amounts.specs.Decline.{Answer, taken, isTaken, checked}
 use Rattle.layout.specs.Outline.{mayPost}
 use Rattle.plant.specs.Setup.{noRates, Rated, SoundSetup}
-use Rattle.plant.specs.Stage.{sewered, landfilled, sideRow, waterRow, rateRow, ratesFit, allRatesFit, stageChecks, withStage}
+use Rattle.plant.specs.Stage.{sewered, landfilled, sideRow, waterRow, rateRow, pairFits, allPairsFit, stageChecks, withStage}
 use Rattle.layout.specs.declared.outline.Outline.{Outline}
 use Rattle.plant.specs.declared.setup.Rates.{Rates}
 use Rattle.plant.specs.declared.setup.Setup.{Setup}
 use Rattle.layout.proofs.Checked.{passed}
 use Rattle.layout.proofs.Each.{and-true, all-at, length-put, put-keeps}
 
-fit-rated : (side : Answer Bool) (r : Rates) → ratesFit side r ≡ true → Rated r
+fit-rated : (side : Answer Bool) (r : Rates) → pairFits side r ≡ true → Rated r
 fit-rated side r e =
     let first = and-true (isTaken side) (isPpm (r .«gas_removal») && (isPpm (r .«gas_destruction») && (isPpm (r .«water_removal») && isPpm (r .«water_destruction»)))) e in
     let removal = and-true (isPpm (r .«gas_removal»)) (isPpm (r .«gas_destruction») && (isPpm (r .«water_removal») && isPpm (r .«water_destruction»))) (first .1) in
@@ -38,7 +38,7 @@ pub record Accepts (o : Outline) (stage : ℕ) (body : List ℕ) : Type 0 where
   pub long : length body ≡ 500
   pub substances : o .substances ≤ 8
   pub stages : o .stages ≤ 8
-  pub rates : allRatesFit (o .substances) (drop 2 body) ≡ true
+  pub pairs : allPairsFit (o .substances) (drop 2 body) ≡ true
 
 pub accepted : {A : Type 0} (o : Outline) (stage : ℕ) (body : List ℕ) (x y : A) → checked (stageChecks o stage body) x ≡ taken y → Accepts o stage body × (y ≡ x)
 accepted o stage body x y e =
@@ -50,7 +50,7 @@ accepted o stage body x y e =
         long = eqb-true (length body) 500 (h .0 .1 .0);
         substances = leb-true (o .substances) 8 (h .0 .1 .1 .0);
         stages = leb-true (o .stages) 8 (h .0 .1 .1 .1 .0);
-        rates = h .0 .1 .1 .1 .1 .1 .1 .0;
+        pairs = h .0 .1 .1 .1 .1 .1 .1 .0;
       },
       h .1,
     )
@@ -58,7 +58,7 @@ accepted o stage body x y e =
 pub sound-stage : (u : Setup) (stage : ℕ) (body : List ℕ) → SoundSetup u → Accepts (u .outline) stage body → SoundSetup (withStage u stage body)
 sound-stage u stage body h a =
     let n = u .outline .substances in
-    let fit = all-at n (λ k. ratesFit (sideRow (drop 2 body) k) (rateRow (drop 2 body) k)) in
+    let fit = all-at n (λ k. pairFits (sideRow (drop 2 body) k) (rateRow (drop 2 body) k)) in
     record {
       substances-few = h .substances-few;
       materials-few = h .materials-few;
@@ -68,7 +68,7 @@ sound-stage u stage body h a =
       counted-small = h .counted-small;
       rated =
           put-keeps (λ i. stage * 8 + i) (rateRow (drop 2 body)) (u .rates) Rated noRates (h .rated) n
-          (λ i l. fit-rated (sideRow (drop 2 body) i) (rateRow (drop 2 body) i) (fit i (a .rates) l));
+          (λ i l. fit-rated (sideRow (drop 2 body) i) (rateRow (drop 2 body) i) (fit i (a .pairs) l));
       rates-long = length-put (λ i. stage * 8 + i) (rateRow (drop 2 body)) (u .rates) n ∙ h .rates-long;
       sides-long = length-put (λ i. stage * 8 + i) (waterRow (drop 2 body)) (u .«to_water») n ∙ h .sides-long;
       sewer-long = length-set (u .«to_sewer») stage (sewered body) ∙ h .sewer-long;

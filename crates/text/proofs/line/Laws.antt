@@ -9,7 +9,7 @@ use Rattle.report.specs.declared.report.Filing.the-variants.{Figures, NotDue}
 use Rattle.report.specs.declared.report.Report.{Report}
 use Rattle.text.specs.Number.{space, decimal}
 use Rattle.text.specs.Line.{lineFeed, yesNo, filingText, lineText, refusedText}
-use Rattle.text.specs.Writing.{Room}
+use Rattle.text.specs.Steps.{Room}
 use Rattle.text.proofs.number.Laws.{digits-short, decimal-short, figure-short}
 
 pub line-is : (r : Report) (d : ℕ) → d ≡ yesNo (r .due)

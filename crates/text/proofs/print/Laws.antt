@@ -17,7 +17,7 @@ use Rattle.report.specs.declared.report.Reported.{Reported}
 use Rattle.report.specs.declared.report.Reported.the-variants.{Known, Declined}
 use Rattle.text.specs.Line.{lineText, refusedText}
 use Rattle.text.specs.Print.{title, linesTo, returnText}
-use Rattle.text.specs.Writing.{Room, Puts}
+use Rattle.text.specs.Steps.{Room, Puts}
 use Rattle.text.proofs.line.Laws.{refused-is}
 use Rattle.text.proofs.number.Laws.{decimal-short}
 use Rattle.text.proofs.writing.Laws.{written-none, room-then, puts-then, puts-length, puts-as}

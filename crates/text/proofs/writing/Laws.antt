@@ -10,7 +10,8 @@ use lib.ListN.{length, take, drop, set, length-append, length-drop, take-append-
 use lib.Seq.{take-at, drop-at, drop-drop, length-take-le, set-split, append-snoc}
 use Rattle.layout.specs.Bytes.{written, placed}
 use Rattle.layout.proofs.bytes.Placed.{placed-fits}
-use Rattle.text.specs.Writing.{Room, Puts, triedIn, triedAnswer, Tries}
+use Rattle.text.specs.Steps.{Room, Puts}
+use Rattle.text.specs.Writing.{triedIn, triedAnswer, Tries}
 use Rattle.text.specs.declared.writing.Written.the-variants.{At, NoRoom}
 
 -- ---- writes

@@ -4,7 +4,7 @@ use Prim.Native.Nat.{ℕ}
 use lib.Ieee.{Float}
 use borrow.Author.Needs.{needs}
 use Rattle.losses.specs.Pattern.{inRange}
-use Rattle.losses.specs.Form.{inputsOf}
+use Rattle.losses.specs.Steps.{inputsOf}
 use Rattle.losses.specs.declared.pattern.Range.{Range}
 use Rattle.losses.specs.Binary64.{valueOf}
 use Rattle.losses.proofs.pattern.Laws.{read, refused}

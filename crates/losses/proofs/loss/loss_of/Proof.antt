@@ -1,7 +1,8 @@
 use mathlib.Core.Path.{_∙_, sym, ap}
 use lib.Ieee.{Float}
 use borrow.Author.Needs.{needs}
-use Rattle.losses.specs.Loss.{lossOf, kgAnswer, limitedOf}
+use Rattle.losses.specs.Loss.{lossOf, limitedOf}
+use Rattle.losses.specs.Steps.{kgAnswer}
 use Rattle.amounts.specs.Decline.{Answer, onTaken}
 use Rattle.losses.proofs.loss.loss_of.Statement.{statement}
 use Rattle.losses.proofs.loss.loss_of.Tie as tie

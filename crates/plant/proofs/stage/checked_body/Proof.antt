@@ -2,7 +2,7 @@ use mathlib.Core.Path.{ap, _∙_}
 use mathlib.Core.Bool.{Bool}
 use Prim.Native.Nat.{ℕ}
 use Rattle.amounts.specs.Decline.{isTaken}
-use Rattle.plant.specs.Stage.{secondOf, allRatesFit}
+use Rattle.plant.specs.Stage.{secondOf, allPairsFit}
 use Rattle.layout.proofs.verdict.Laws.{row-is, through}
 use borrow.Author.Needs.{needs}
 use Rattle.plant.proofs.stage.Laws.{case-is}
@@ -27,8 +27,8 @@ row-requires c κs = search needs
 tail-requires : tie.Need-tail-requires
 tail-requires c κs = search needs
 
-all-rates-fit-requires : tie.Need-all-rates-fit-requires
-all-rates-fit-requires c κs = search needs
+all-pairs-fit-requires : tie.Need-all-pairs-fit-requires
+all-pairs-fit-requires c κs = search needs
 
 row-requires-2 : tie.Need-row-requires-2
 row-requires-2 c κs = search needs
@@ -54,11 +54,11 @@ row-requires-4 c κs = search needs
 returns : tie.Need-returns
 returns c =
     let residue = c .before .before .before in
-    let rates = residue .before .before .before in
-    let zeros = rates .before .before .before in
+    let pairs = residue .before .before .before in
+    let zeros = pairs .before .before .before in
     row-is _ _ _ _ (c .row4 .ensures) (c .before .is-within2 .ensures ∙ case-is _ ∙ ap cased (c .before .before .byte-at2 .ensures))
     (row-is _ _ _ _ (residue .row3 .ensures) (residue .before .is-within .ensures ∙ case-is _ ∙ ap cased (residue .before .before .byte-at .ensures))
-    (row-is _ _ _ _ (rates .row2 .ensures) (rates .before .all-rates-fit .ensures ∙ ap (allRatesFit _) (rates .before .before .tail .ensures))
+    (row-is _ _ _ _ (pairs .row2 .ensures) (pairs .before .all-pairs-fit .ensures ∙ ap (allPairsFit _) (pairs .before .before .tail .ensures))
     (row-is _ _ _ _ (zeros .row .ensures) (zeros .before .zero-from .ensures) (through (tt {0})))))
 
 pub checked-body-spec : {M : Type 1} → statement M
@@ -70,7 +70,7 @@ checked-body-spec =
     zero-from-requires
     row-requires
     tail-requires
-    all-rates-fit-requires
+    all-pairs-fit-requires
     row-requires-2
     byte-at-requires
     is-within-requires

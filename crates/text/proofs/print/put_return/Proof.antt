@@ -6,7 +6,7 @@ use lib.ListN.{length}
 use borrow.Author.Needs.{needs}
 use denote.Ref.{now}
 use Rattle.text.specs.Print.{title}
-use Rattle.text.specs.Writing.{Room}
+use Rattle.text.specs.Steps.{Room}
 use Rattle.text.proofs.print.Laws.{known, not-known, Printed, printed-none, printed-more, line-fits, printed-all}
 use Rattle.text.proofs.writing.Laws.{puts-length}
 use Rattle.text.proofs.print.put_return.Statement.{statement}

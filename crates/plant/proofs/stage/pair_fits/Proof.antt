@@ -5,8 +5,8 @@ use Rattle.plant.specs.Stage.{secondOf}
 use Rattle.layout.proofs.verdict.Laws.{holds, misses}
 use borrow.Author.Needs.{needs}
 use Rattle.plant.proofs.stage.Laws.{case-is}
-use Rattle.plant.proofs.stage.rates_fit.Statement.{statement}
-use Rattle.plant.proofs.stage.rates_fit.Tie as tie
+use Rattle.plant.proofs.stage.pair_fits.Statement.{statement}
+use Rattle.plant.proofs.stage.pair_fits.Tie as tie
 
 is-within-requires : tie.Need-is-within-requires
 is-within-requires c κs = search needs
@@ -37,6 +37,6 @@ returns-5 c =
     let h = holds (told (k .before .before .before .before .before)) (k .before .before .before .before .if1 .left) in
     rw (h, le-leb _ _ (k .before .before .if2 .left), le-leb _ _ (k .if3 .left), le-leb _ _ (c .before .if4 .left))
 
-pub rates-fit-spec : {M : Type 1} → statement M
-rates-fit-spec =
+pub pair-fits-spec : {M : Type 1} → statement M
+pair-fits-spec =
     tie.close (tie.spec is-within-requires returns returns-2 returns-3 returns-4 returns-5)

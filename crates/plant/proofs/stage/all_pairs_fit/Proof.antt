@@ -6,14 +6,14 @@ use Prim.Native.Nat.{ℕ, _≤_, _-_}
 use borrow.Author.Needs.{needs}
 use Rattle.plant.specs.declared.setup.Rates.{Rates}
 use Rattle.layout.specs.Each.{allTo}
-use Rattle.plant.specs.Stage.{secondOf, ratesFit, sideRow, rateRow}
+use Rattle.plant.specs.Stage.{secondOf, pairFits, sideRow, rateRow}
 use Rattle.layout.proofs.Each.{all-again, all-done, all-fails}
 use Rattle.layout.proofs.verdict.Laws.{holds, misses}
-use Rattle.plant.proofs.stage.all_rates_fit.Statement.{statement}
-use Rattle.plant.proofs.stage.all_rates_fit.Tie as tie
+use Rattle.plant.proofs.stage.all_pairs_fit.Statement.{statement}
+use Rattle.plant.proofs.stage.all_pairs_fit.Tie as tie
 
 abbrev Inv-loop : tie.InvT-loop
-Inv-loop s n end i₀ i = (i ≤ n) × (allTo i (λ k. ratesFit (sideRow s k) (rateRow s k)) ≡ true)
+Inv-loop s n end i₀ i = (i ≤ n) × (allTo i (λ k. pairFits (sideRow s k) (rateRow s k)) ≡ true)
 
 abbrev μ-loop : tie.MeasureT-loop
 μ-loop s n end i₀ i = n - i
@@ -34,19 +34,19 @@ mul-rates-at c = search needs
 rates-at-requires : tie.Need-rates-at-requires Inv-loop μ-loop
 rates-at-requires c κs = search needs
 
-rates-fit-requires : tie.Need-rates-fit-requires Inv-loop μ-loop
-rates-fit-requires c κs = search needs
+pair-fits-requires : tie.Need-pair-fits-requires Inv-loop μ-loop
+pair-fits-requires c κs = search needs
 
 -- what the code has of a row
-row-told : (c : tie.After-rates-fit Inv-loop μ-loop) → let k = c .before .before .before .before in
-    c .rates-fit .result ≡ ratesFit (sideRow (now (k .before .before .args .s)) (k .loop .i)) (rateRow (now (k .before .before .args .s)) (k .loop .i))
-row-told c = c .rates-fit .ensures ∙ ap₂ (λ (byte : ℕ) (r : Rates). ratesFit (secondOf byte) r) (c .before .before .byte-at .ensures) (c .before .rates-at .ensures)
+row-told : (c : tie.After-pair-fits Inv-loop μ-loop) → let k = c .before .before .before .before in
+    c .pair-fits .result ≡ pairFits (sideRow (now (k .before .before .args .s)) (k .loop .i)) (rateRow (now (k .before .before .args .s)) (k .loop .i))
+row-told c = c .pair-fits .ensures ∙ ap₂ (λ (byte : ℕ) (r : Rates). pairFits (secondOf byte) r) (c .before .before .byte-at .ensures) (c .before .rates-at .ensures)
 
 returns : tie.Need-returns Inv-loop μ-loop
 returns c =
     let k = c .before .before .before .before .before in
     let a = k .before .before .args in
-    all-fails (a .n) (λ j. ratesFit (sideRow (now (a .s)) j) (rateRow (now (a .s)) j)) (k .loop .i) (search needs) (misses (row-told (c .before)) (c .if1 .taken))
+    all-fails (a .n) (λ j. pairFits (sideRow (now (a .s)) j) (rateRow (now (a .s)) j)) (k .loop .i) (search needs) (misses (row-told (c .before)) (c .if1 .taken))
 
 add-i : tie.Need-add-i Inv-loop μ-loop
 add-i c = search needs
@@ -59,17 +59,17 @@ loop-again c =
     let k = c .before .before .before .before .before in
     let a = k .before .before .args in (
       search needs,
-      all-again (k .loop .i) (λ j. ratesFit (sideRow (now (a .s)) j) (rateRow (now (a .s)) j)) (k .loop .inv .1) (holds (row-told (c .before)) (c .if1 .left)),
+      all-again (k .loop .i) (λ j. pairFits (sideRow (now (a .s)) j) (rateRow (now (a .s)) j)) (k .loop .inv .1) (holds (row-told (c .before)) (c .if1 .left)),
     )
 
 returns-2 : tie.Need-returns-2 Inv-loop μ-loop
 returns-2 c =
     let k = c .before in
     let a = k .before .before .args in
-    all-done (k .loop .i) (a .n) (λ j. ratesFit (sideRow (now (a .s)) j) (rateRow (now (a .s)) j)) (k .loop .inv .0) (c .loop-test .left) (k .loop .inv .1)
+    all-done (k .loop .i) (a .n) (λ j. pairFits (sideRow (now (a .s)) j) (rateRow (now (a .s)) j)) (k .loop .inv .0) (c .loop-test .left) (k .loop .inv .1)
 
-pub all-rates-fit-spec : {M : Type 1} → statement M
-all-rates-fit-spec =
+pub all-pairs-fit-spec : {M : Type 1} → statement M
+all-pairs-fit-spec =
     tie.close
     (tie.spec
     Inv-loop
@@ -79,7 +79,7 @@ all-rates-fit-spec =
     byte-at-requires
     mul-rates-at
     rates-at-requires
-    rates-fit-requires
+    pair-fits-requires
     returns
     add-i
     loop-less
