@@ -2,7 +2,7 @@
 use mathlib.Core.Path.{_≡_, refl, sym, ap, subst, _∙_}
 use mathlib.Core.Bool.{Bool, true, false}
 use mathlib.Core.List.{List, [], _∷_, map}
-use Prim.Native.Nat.{ℕ, _+_, _*_}
+use Prim.Native.Nat.{ℕ, _*_}
 use native.Mathlib.Omega.{arith}
 use borrow.Author.Tests.{eqb-true}
 use lib.Dec.{eqb}
@@ -16,7 +16,7 @@ use Rattle.post.specs.declared.fields.Post.{Post}
 use Rattle.post.specs.declared.kind.Does.{Does}
 use Rattle.post.specs.declared.kind.Does.the-variants.{Receives, Issues, Brings, Leaves, Closes}
 use Rattle.post.specs.declared.kind.Measure.{Measure}
-use Rattle.post.specs.declared.kind.Measure.the-variants.{Quantity, Content, Loss}
+use Rattle.post.specs.declared.kind.Measure.the-variants.{Quantity, Content}
 use Rattle.post.specs.declared.moves.Move.{Move}
 use Rattle.post.specs.declared.moves.Move.the-variants.{Received, Issued, Brought, Gone, Close}
 use Rattle.book.specs.Entry.{enters, handles}
@@ -68,7 +68,8 @@ sorted : (n : ℕ) (r : Row) → kindOf n ≡ taken r → SortedBy (sortOf n) (r
 unfolding kindOf find
 sorted n r e = let z = go rows all-sorted e in subst (λ (i : ℕ). SortedBy (sortOf i) (r .measure) (r .does)) (z .1) (z .0)
   where
-    pick : (t : Bool) (q : Row) (x : Answer Row) → eqb (q .number) n ≡ t → Sorted q → (x ≡ taken r → Sorted r × (r .number ≡ n)) → rowIf t q x ≡ taken r → Sorted r × (r .number ≡ n)
+    pick : (t : Bool) (q : Row) (x : Answer Row) → eqb (q .number) n ≡ t → Sorted q → (x ≡ taken r → Sorted r × (r .number ≡ n)) → rowIf t q x ≡ taken r
+        → Sorted r × (r .number ≡ n)
     pick true q x b w h f = let same : q ≡ r = cc in subst (λ (i : Row). Sorted i × (i .number ≡ n)) same (w, eqb-true (q .number) n b)
     pick false q x b w h f = h f
 

@@ -12,7 +12,7 @@ use Rattle.claims.specs.Demand as demand
 use Rattle.claims.specs.Standing.{Call, standing, countedIn}
 use Rattle.claims.specs.Weighing as weighing
 
--- "1 opening, 2 bought", "3 issued", "4 formed", "kind 14, found"; the other kinds bring nothing in and hand nothing on
+-- "1 opening, 2 bought", "3 issued", "4 formed", "kind 14, found"; the other kinds count neither as entered nor as handled
 pub data Sort : Type 0 where
   stock : Sort
   issued : Sort

@@ -19,7 +19,7 @@ use Rattle.writer.specs.Page as page
 use Rattle.writer.specs.Page.{freshPage}
 use Rattle.claims.specs.Singles.{allTaken}
 use Rattle.claims.specs.Written.{joined, blocksOf}
-use Rattle.claims.specs.Reread.{singly, TakesSingly}
+use Rattle.claims.specs.Reread.{singly}
 use Rattle.worked_claims.specs.Reread.{met, unmet, lent, bookMet, PremiseMet, PremiseNeeded}
 
 -- ---- the premise met

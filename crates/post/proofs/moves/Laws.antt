@@ -9,7 +9,7 @@ use lib.Dec.{eqb}
 use lib.ListN.{length, getD}
 use Rattle.losses.specs.Binary64.{valueOf}
 use Rattle.losses.specs.Coefficient.{rowOf}
-use Rattle.amounts.specs.Decline.{Answer, taken, declined, check, checked, onTaken, isTaken, layout, range}
+use Rattle.amounts.specs.Decline.{Answer, taken, declined, check, checked, onTaken, layout, range}
 use Rattle.amounts.proofs.decline.Laws.{was-taken}
 use Rattle.losses.proofs.loss.Laws.{over-bounded, over-range}
 use Rattle.amounts.specs.declared.decline.Decline.{Decline}
@@ -19,7 +19,7 @@ use Rattle.layout.specs.declared.verdict.Verdict.the-variants.{Accepted, Declin
 use Rattle.layout.proofs.Checked.{passed}
 use Rattle.post.specs.Fields.{postAt}
 use Rattle.post.specs.Kind.{Row, fieldsFit, kindOf, kindAt, limited}
-use Rattle.post.specs.Moves.{floatsUnused, floatsFit, measured, moveOf, moveIn, laidOut, wellFormed, moveAt}
+use Rattle.post.specs.Moves.{floatsFit, measured, moveOf, moveIn, laidOut, wellFormed, moveAt}
 use Rattle.post.specs.Steps.{laidAs, laidOf, amountRead, Fits}
 use Rattle.post.specs.declared.fields.Post.{Post}
 use Rattle.post.specs.declared.kind.Does.{Does}
