@@ -1,16 +1,65 @@
 // The figure that is filed for an amount.
 ghost use mathlib.Core.Path.{_≡_};
-ghost use Rattle.amounts.specs.Filed.{stepOf, filedOf};
+ghost use Rattle.amounts.specs.Filed.{caseOf, stepOf, filedOf};
+
+// A case of rounding: its number, from 0, and its step in micrograms.
+pub struct Case {
+    pub number: u8,
+    pub step: u64,
+}
+
+fn numbered(number: u8, step: u64) -> Case
+    ensures { λ r. ⌜ r ≡ record { number = number; step = step } ⌝ }
+{
+    Case {
+        number: number,
+        step: step,
+    }
+}
+
+// The case of an amount in micrograms: that of the last bound which it reaches.
+pub fn case_of(amount: u64) -> Case
+    ensures { λ r. ⌜ r ≡ caseOf amount ⌝ }
+{
+    let mut case = numbered(0, 100_000_000);
+    if amount >= 10_000_000_000 {
+        case = numbered(1, 1_000_000_000);
+    }
+    if amount >= 100_000_000_000 {
+        case = numbered(2, 10_000_000_000);
+    }
+    if amount >= 1_000_000_000_000 {
+        case = numbered(3, 100_000_000_000);
+    }
+    if amount >= 10_000_000_000_000 {
+        case = numbered(4, 1_000_000_000_000);
+    }
+    if amount >= 100_000_000_000_000 {
+        case = numbered(5, 10_000_000_000_000);
+    }
+    if amount >= 1_000_000_000_000_000 {
+        case = numbered(6, 100_000_000_000_000);
+    }
+    if amount >= 10_000_000_000_000_000 {
+        case = numbered(7, 1_000_000_000_000_000);
+    }
+    if amount >= 100_000_000_000_000_000 {
+        case = numbered(8, 10_000_000_000_000_000);
+    }
+    if amount >= 1_000_000_000_000_000_000 {
+        case = numbered(9, 100_000_000_000_000_000);
+    }
+    if amount >= 10_000_000_000_000_000_000 {
+        case = numbered(10, 1_000_000_000_000_000_000);
+    }
+    case
+}
 
 // The step to which an amount in micrograms is rounded.
 pub fn step_of(amount: u64) -> u64
     ensures { λ r. ⌜ r ≡ stepOf amount ⌝ }
 {
-    let mut step: u64 = 100_000_000;
-    while amount / step >= 100 {
-        step = step * 10;
-    }
-    step
+    case_of(amount).step
 }
 
 // The amount rounded half up to its step: the remainder is compared with half the step, so that no sum passes 64 bits.

@@ -2,13 +2,15 @@
 use mathlib.Core.Path.{_≡_, refl, sym, ap, _∙_, subst}
 use mathlib.Core.Logic.{_⊎_, inl, inr}
 use mathlib.Core.Bool.{Bool, true, false}
+use mathlib.Core.List.{List, [], _∷_}
 use Prim.Native.Nat.{ℕ, zero, suc, _+_, _*_, _/_, _%_, _^_, _≤_, _<_}
 use native.Mathlib.Nat.{div-lt-iff-lt-mul, mul-div-cancel, mul-add-div-right, div-add-mod', div-eq-of-lt, div-eq-of-lt-le, div-mul-le-self, lt-div-mul-add, mod-lt}
 use native.Mathlib.Nat.{pow-suc, pow-le-pow-right, one-le-pow, le-trans, lt-of-lt-of-le, lt-irrefl, mul-le-mul-right, add-assoc}
 use native.Mathlib.Omega.{arith}
 use lib.Dec.{leb, lit<, lit≤}
 use borrow.Author.Tests.{lt-ltb, le-ltb, le-leb, lt-leb, leb-true, leb-false}
-use Rattle.amounts.specs.Filed.{largestPower, stepOf, halfUp, filedOf}
+use Rattle.amounts.specs.Filed.{Row, _steps_, rows, caseIn, caseOf, stepOf, halfUp, filedOf, LargestPower, TenthOfPower, StepIsTenthOfPower}
+use Rattle.amounts.specs.declared.filed.Case.{Case}
 
 pub either : (a b : ℕ) → (a ≤ b) ⊎ (b < a)
 either a b = go (leb a b) refl
@@ -26,52 +28,84 @@ power-back : (i n a : ℕ) → 10 ^ i ≤ a → a < 10 ^ n → i < n
 power-back i n a h k =
     elim (either n i) [ inl l ↦ absurd (lt-irrefl a (lt-of-lt-of-le k (le-trans (power-mono l) h))) | inr l ↦ l ]
 
--- 10 ^ j is the largest power of ten not above a
-abbrev Decade : ℕ → ℕ → Type 0
-Decade j a = (10 ^ j ≤ a) × (a < 10 ^ suc j)
+ten-times : (i j : ℕ) → i ≡ suc j → 10 ^ i ≡ 10 ^ j * 10
+ten-times i j e = ap (λ (k : ℕ). 10 ^ k) e ∙ pow-suc 10 j
 
-largest-is : (n j a : ℕ) → j ≤ n → Decade j a → largestPower n a ≡ 10 ^ j
-unfolding largestPower
-largest-is zero j a h t = let e : j ≡ 0 = omega arith in rw e
-largest-is (suc n) j a h t =
-    elim (either j n) [
-      | inl l ↦ rw (lt-leb (10 ^ suc n) a (lt-of-lt-of-le (t .1) (power-mono (omega arith)))) (largest-is n j a l t)
-      | inr l ↦ let e : suc n ≡ j = omega arith in rw (e, le-leb (10 ^ j) a (t .0))
+-- ---- the rows by their numbers
+
+-- the amount from which case n holds
+abbrev begins : ℕ → ℕ
+begins zero = 0
+begins (suc n) = 10 ^ (10 + n)
+
+abbrev pub caseAt : ℕ → Case
+caseAt n = record { number = n; step = 10 ^ (8 + n) }
+
+-- k rows of the decades, numbered on from n
+decades : ℕ → ℕ → List Row
+decades n zero = []
+decades n (suc k) = begins n steps 10 ^ (8 + n) ∷ decades (suc n) k
+
+rows-are-decades : rows ≡ decades 0 11
+unfolding rows decades
+rows-are-decades = refl
+
+-- the amounts of case n
+abbrev InCase : ℕ → ℕ → Type 0
+InCase n a = (begins n ≤ a) × (a < 10 ^ (10 + n))
+
+-- what an amount that has reached row n reaches in the k rows behind it
+reaches : (k n a : ℕ) → n + k ≡ 10 → a < 10 ^ 20 → begins n ≤ a
+    → (m : ℕ) × InCase m a × (caseIn (suc n) (caseAt n) (decades (suc n) k) a ≡ caseAt m)
+unfolding caseIn decades
+reaches zero n a e f h =
+    let z : n ≡ 10 = omega arith in
+    (n, (h, subst (λ (i : ℕ). a < 10 ^ (10 + i)) (sym z) f), refl)
+reaches (suc k) n a e f h =
+    elim (either (10 ^ (10 + n)) a) [
+      | inl l ↦ let z = reaches k (suc n) a (omega arith) f l in (z .0, z .1, rw (le-leb (10 ^ (10 + n)) a l) (z .2))
+      | inr l ↦ (n, (h, l), rw (lt-leb (10 ^ (10 + n)) a l))
     ]
 
-decade-of : (n a : ℕ) → 0 < a → a < 10 ^ suc n → (j : ℕ) × (j ≤ n) × Decade j a
-decade-of zero a h k = (0, omega arith, (omega arith, k))
-decade-of (suc n) a h k =
-    elim (either (10 ^ suc n) a) [
-      | inl l ↦ (suc n, omega arith, (l, k))
-      | inr l ↦ let z = decade-of n a h l in (z .0, omega (arith, z .1), z .2)
+case-of-number : (a : ℕ) → a < 10 ^ 20 → (n : ℕ) × InCase n a × (caseOf a ≡ caseAt n)
+unfolding caseOf caseIn decades
+case-of-number a f = rw (le-leb 0 a (omega arith)) (reaches 10 0 a refl f (omega arith))
+
+-- no amount is in two cases
+one-case : (m n a : ℕ) → InCase m a → InCase n a → m ≡ n
+one-case zero zero a s t = refl
+one-case zero (suc n) a s t = absurd (omega (arith, power-back (10 + n) 10 a (t .0) (s .1)))
+one-case (suc m) zero a s t = absurd (omega (arith, power-back (10 + m) 10 a (s .0) (t .1)))
+one-case (suc m) (suc n) a s t =
+    omega (arith, power-back (10 + m) (10 + suc n) a (s .0) (t .1), power-back (10 + n) (10 + suc m) a (t .0) (s .1))
+
+few : (n a : ℕ) → a < 10 ^ 20 → InCase n a → n ≤ 10
+few zero a f t = omega arith
+few (suc n) a f t = omega (arith, power-back (10 + n) 20 a (t .0) f)
+
+-- the case of an amount, by its number
+case-is : (n a : ℕ) → a < 10 ^ 20 → InCase n a → caseOf a ≡ caseAt n
+case-is n a f t = let z = case-of-number a f in z .2 ∙ ap caseAt (one-case (z .0) n a (z .1) t)
+
+-- ---- the tests of `case_of`, in a row
+
+-- the case is that of the amount, if the amount doesn't reach row n + 1
+abbrev pub UpTo : ℕ → ℕ → Case → Type 0
+UpTo n a c = a < 10 ^ (10 + n) → c ≡ caseOf a
+
+pub up-to-first : (a : ℕ) → UpTo 0 a (caseAt 0)
+up-to-first a l = sym (case-is 0 a (omega arith) (omega arith, l))
+
+-- a test that is taken puts its own case in the place of the last one
+pub up-to-next : (n a : ℕ) (last c : Case) → a < 2 ^ 64 → UpTo n a last
+    → ((10 ^ (10 + n) ≤ a) × (c ≡ caseAt (suc n))) ⊎ ((a < 10 ^ (10 + n)) × (c ≡ last)) → UpTo (suc n) a c
+up-to-next n a last c f t came l =
+    elim came [
+      | inl z ↦ z .1 ∙ sym (case-is (suc n) a (omega arith) (z .0, l))
+      | inr z ↦ z .1 ∙ t (z .0)
     ]
 
 -- ---- the step
-
-step-low : (a : ℕ) → a < 10000000000 → stepOf a ≡ 100000000
-unfolding stepOf
-step-low a h = rw (lt-ltb a (10 ^ 10) h)
-
-step-high : (j a : ℕ) → suc j ≤ 19 → 10000000000 ≤ a → Decade (suc j) a → stepOf a ≡ 10 ^ j
-unfolding stepOf
-step-high j a n h t =
-    rw (le-ltb a (10 ^ 10) h, largest-is 19 (suc j) a n t, pow-suc 10 j) (mul-div-cancel (10 ^ j) (lit< tt))
-
--- what the step of an amount of 64 bits is: 10 ^ 8, or 10 ^ j with 10 ^ (j + 1) the largest power of ten not above the amount
-step-cases : (a : ℕ) → a < 2 ^ 64 → ((a < 10000000000) × (stepOf a ≡ 100000000)) ⊎ ((j : ℕ) × (9 ≤ j) × (j ≤ 18) × (stepOf a ≡ 10 ^ j) × Decade (suc j) a)
-step-cases a f =
-    elim (either 10000000000 a) [
-      | inl b ↦
-          let z = decade-of 19 a (omega arith) (omega arith) in
-          high a (z .0) b (omega (arith, power-back 10 (suc (z .0)) a b (z .2 .1))) (z .1) (z .2)
-      | inr b ↦ inl (b, step-low a b)
-    ]
-  where
-    high : (a j : ℕ) → 10000000000 ≤ a → 10 ≤ j → j ≤ 19 → Decade j a
-        → ((a < 10000000000) × (stepOf a ≡ 100000000)) ⊎ ((j : ℕ) × (9 ≤ j) × (j ≤ 18) × (stepOf a ≡ 10 ^ j) × Decade (suc j) a)
-    high a zero b l m t = absurd (omega arith)
-    high a (suc j) b l m t = inr (j, omega arith, omega arith, step-high j a m b t, t)
 
 -- what rounding uses of an amount and its step
 pub record Step (a s : ℕ) : Type 0 where
@@ -81,74 +115,50 @@ pub record Step (a s : ℕ) : Type 0 where
   pub under : a < 100 * s
   pub most : (s ≤ 100000000000000000) ⊎ (s ≡ 1000000000000000000)
 
+step-in : (n a : ℕ) → a < 10 ^ 20 → InCase n a → Step a (10 ^ (8 + n))
+step-in n a f t =
+    let half = ten-times (8 + n) (7 + n) (omega arith) in
+    let tenth = ten-times (9 + n) (8 + n) (omega arith) in
+    let whole = ten-times (10 + n) (9 + n) (omega arith) in
+    let some : 1 ≤ 10 ^ (7 + n) = one-le-pow (7 + n) 10 (lit< tt) in
+    record {
+      half = 10 ^ (7 + n) * 5;
+      some = omega arith;
+      twice = omega arith;
+      under = omega (arith, t .1);
+      most = elim (either n 9) [
+        | inl l ↦ inl (power-mono {j = 17} (omega arith))
+        | inr l ↦ inr (ap (λ (i : ℕ). 10 ^ (8 + i)) {y = 10} (omega (arith, few n a f t)))
+      ];
+    }
+
 pub step-is : (a : ℕ) → a < 2 ^ 64 → Step a (stepOf a)
+unfolding stepOf
 step-is a f =
-    elim (step-cases a f) [
-      | inl z ↦
-          let e : stepOf a ≡ 100000000 = z .1 in
-          record { half = 50000000; some = omega arith; twice = omega arith; under = omega (arith, z .0); most = inl (omega arith) }
-      | inr z ↦ high (z .0) (z .1) (z .2) (z .3) (z .4)
-    ]
-  where
-    high : (j : ℕ) → 9 ≤ j → j ≤ 18 → stepOf a ≡ 10 ^ j → Decade (suc j) a → Step a (stepOf a)
-    high zero l m e t = absurd (omega arith)
-    high (suc k) l m e t =
-        let p : 10 ^ suc k ≡ 10 ^ k * 10 = pow-suc 10 k in
-        let q : 10 ^ suc (suc k) ≡ 10 ^ suc k * 10 = pow-suc 10 (suc k) in
-        let r : 10 ^ suc (suc (suc k)) ≡ 10 ^ suc (suc k) * 10 = pow-suc 10 (suc (suc k)) in
-        let o : 1 ≤ 10 ^ k = one-le-pow k 10 (lit< tt) in
-        record {
-          half = 10 ^ k * 5;
-          some = omega arith;
-          twice = omega arith;
-          under = omega (arith, t .1);
-          most = elim (either (suc k) 17) [
-            | inl n ↦ let w : 10 ^ suc k ≤ 10 ^ 17 = power-mono n in inl (omega arith)
-            | inr n ↦ let w : suc k ≡ 18 = omega arith in inr (e ∙ ap (λ (i : ℕ). 10 ^ i) w)
-          ];
-        }
+    let z = case-of-number a (omega arith) in
+    subst (λ (c : Case). Step a (c .step)) (sym (z .2)) (step-in (z .0) a (omega arith) (z .1))
 
--- the step is 10 ^ 8 or a higher power of ten
-pub step-power : (a : ℕ) → a < 2 ^ 64 → (j : ℕ) × (8 ≤ j) × (stepOf a ≡ 10 ^ j)
-step-power a f =
-    elim (step-cases a f) [
-      | inl z ↦ (8, lit≤ tt, z .1)
-      | inr z ↦ (z .0, omega (arith, z .1), z .3)
-    ]
+-- ---- document 01's step
 
--- ---- the loop of `step_of`
+high : (n a : ℕ) → InCase n a → 10 ^ 10 ≤ a → (p : ℕ) × LargestPower p a × (10 ^ (8 + n) ≡ p / 10)
+high zero a t h = absurd (omega (arith, t .1))
+high (suc n) a t h =
+    let tenth = ten-times (10 + n) (8 + suc n) (omega arith) in
+    (10 ^ (10 + n), record {
+      exponent = 10 + n;
+      power = refl;
+      reached = t .0;
+      largest = λ (k : ℕ) (l : 10 ^ k ≤ a). power-mono (omega (arith, power-back k (10 + suc n) a l (t .1)));
+    }, sym (ap (λ (k : ℕ). k / 10) tenth ∙ mul-div-cancel (10 ^ (8 + suc n)) (lit< tt)))
 
--- s is 10 ^ 8, or 10 ^ j with 10 ^ (j + 1) not above the amount
-abbrev pub Reached : ℕ → ℕ → Type 0
-Reached a s = (s ≡ 100000000) ⊎ ((j : ℕ) × (9 ≤ j) × (s ≡ 10 ^ j) × (10 ^ suc j ≤ a))
-
-pub reached-some : (a s : ℕ) → Reached a s → 0 < s
-reached-some a s r =
-    elim r [ inl e ↦ omega arith | inr z ↦ subst (λ (k : ℕ). 0 < k) (sym (z .2)) (one-le-pow (z .0) 10 (lit< tt)) ]
-
-pub reached-more : (a s : ℕ) → Reached a s → 100 * s ≤ a → Reached a (s * 10)
-reached-more a s r h =
-    elim r [
-      | inl e ↦ inr (9, lit≤ tt, omega arith, omega arith)
-      | inr z ↦
-          let p : s * 10 ≡ 10 ^ suc (z .0) = ap (λ (k : ℕ). k * 10) (z .2) ∙ sym (pow-suc 10 (z .0)) in
-          let q : 10 ^ suc (suc (z .0)) ≡ 10 ^ suc (z .0) * 10 = pow-suc 10 (suc (z .0)) in
-          inr (suc (z .0), omega (arith, z .1), p, omega arith)
-    ]
-
-pub reached-is : (a s : ℕ) → a < 2 ^ 64 → Reached a s → a < 100 * s → s ≡ stepOf a
-reached-is a s f r h =
-    elim r [
-      | inl e ↦ e ∙ sym (step-low a (omega arith))
-      | inr z ↦
-          let j = z .0 in
-          let p : 10 ^ suc j ≡ 10 ^ j * 10 = pow-suc 10 j in
-          let q : 10 ^ suc (suc j) ≡ 10 ^ suc j * 10 = pow-suc 10 (suc j) in
-          let e : s ≡ 10 ^ j = z .2 in
-          let big : 10 ^ 10 ≤ 10 ^ suc j = power-mono {i = 10} {j = suc j} (omega (arith, z .1)) in
-          let few : suc j < 20 = power-back (suc j) 20 a (z .3) (omega arith) in
-          e ∙ sym (step-high j a (omega arith) (le-trans big (z .3)) (z .3, omega arith))
-    ]
+pub step-is-tenth-of-power : StepIsTenthOfPower
+unfolding stepOf
+step-is-tenth-of-power a f =
+    let z = case-of-number a f in
+    subst (λ (c : Case). TenthOfPower a (c .step)) (sym (z .2)) (record {
+      low = λ (l : a < 10 ^ 10). ap (λ (i : ℕ). 10 ^ (8 + i)) (one-case (z .0) 0 a (z .1) (omega arith, l));
+      high = high (z .0) a (z .1);
+    })
 
 -- ---- rounding half up, with the half h of the step s
 
