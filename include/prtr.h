@@ -30,8 +30,8 @@ extern "C" {
  * Why a call is declined, in checking order. The status of a calculation
  * (prtr_counted, prtr_split, prtr_due, prtr_loss) is 0 or one of 6 to 9; that
  * of prtr_write is 0, 4, 6, 7, 13 or PRTR_MALFORMED; 1 to 11 stand in the
- * "refused" line of prtr_filing; 12 comes from no function here. prtr_step and
- * prtr_figure decline nothing.
+ * "refused" line of prtr_filing; 12 comes from no function here. prtr_case,
+ * prtr_step and prtr_figure decline nothing.
  */
 #define PRTR_NOT_A_BLOCK 1   /* a block isn't 512 bytes or lacks "PRTR" */
 #define PRTR_CHECK_SUM 2     /* a check sum differs */
@@ -74,9 +74,21 @@ uint8_t prtr_split(uint64_t total, uint32_t removal, uint32_t destruction,
                    uint64_t *released, uint64_t *destroyed, uint64_t *residue);
 
 /*
- * The step that the amount of a heading is rounded to, in micrograms: 10^8
- * (0.1 kg) below 10^10, and else a tenth of the largest power of ten that is
- * not above the amount.
+ * How the amount of a heading is rounded, by eleven cases. In micrograms:
+ *
+ * case  0 below 10^10,       step 10^8 (0.1 kg)
+ * case  1 10^10 up to 10^11, step 10^9 (1 kg)
+ *       ..                   and so for each decade, case n from 10^(9+n)
+ * case  9 10^18 up to 10^19, step 10^17
+ * case 10 from 10^19,        step 10^18
+ *
+ * Answers the amount's step and sets *number to its case.
+ */
+uint64_t prtr_case(uint64_t amount, uint8_t *number);
+
+/*
+ * The step alone: 10^8 below 10^10, and else a tenth of the largest power of
+ * ten that is not above the amount.
  */
 uint64_t prtr_step(uint64_t amount);
 

@@ -2,7 +2,7 @@
 ghost use mathlib.Core.Path.{_≡_};
 ghost use Rattle.losses.specs.Binary64.{valueOf};
 ghost use Rattle.amounts.specs.Content.{countedOf};
-ghost use Rattle.amounts.specs.Filed.{stepOf, filedOf};
+ghost use Rattle.amounts.specs.Filed.{caseOf, stepOf, filedOf};
 ghost use Rattle.losses.specs.Loss.{vapourOf};
 ghost use Rattle.amounts.specs.Threshold.{dueOf};
 ghost use Rattle.amounts.specs.Treatment.{splitOf};
@@ -56,6 +56,17 @@ pub extern "C" fn prtr_split(
         }
         Split::Declined(d) => d.number,
     }
+}
+
+// The case of an amount in micrograms: its step is the answer, and its number is put.
+#[no_mangle]
+pub extern "C" fn prtr_case(amount: u64, number: &mut u8) -> u64
+    ensures { λ r. ⌜ r ≡ caseOf amount .step ⌝ }
+    ensures { λ _. ⌜ now (number .exit) ≡ caseOf amount .number ⌝ }
+{
+    let case = filed::case_of(amount);
+    *number = case.number;
+    case.step
 }
 
 // The step to which an amount in micrograms is rounded.

@@ -51,6 +51,27 @@ fn share(amount: u64, rate: u32) -> u64 {
 /// 10 kg in micrograms.
 pub(crate) const TEN_KG: u64 = 10_000_000_000;
 
+/// How an amount is rounded: the number of its case and the step in micrograms.
+#[derive(Clone, Copy, Debug, PartialEq, Eq)]
+pub struct Case {
+    pub number: u8,
+    pub step: u64,
+}
+
+/// Document 02 (c): "below 10^10 micrograms, then one per decade, the last from 10^19", "numbered
+/// from 0"; each step is document 01's.
+pub fn case(amount: u64) -> Case {
+    let number = if amount < TEN_KG {
+        0
+    } else {
+        1 + (amount.ilog10() - TEN_KG.ilog10()) as u8
+    };
+    Case {
+        number,
+        step: step(amount),
+    }
+}
+
 /// "10^8 micrograms (0.1 kg) below 10^10, else a tenth of the largest power of ten not above the
 /// amount."
 pub fn step(amount: u64) -> u64 {

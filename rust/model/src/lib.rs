@@ -1,5 +1,5 @@
 //! Document 01 in plain Rust: one site's book for one year, from posts to the PRTR return; with the
-//! writer of journals of document 02 (a) and the found amounts of (b).
+//! writer of journals of document 02 (a), the found amounts of (b) and the cases of rounding of (c).
 //!
 //! This is an independent model. It was written from the papers and their readings alone, so that a
 //! slip shared with another implementation is unlikely. The book is mutable and updated in place.
@@ -17,7 +17,7 @@ mod report;
 mod setup;
 mod writer;
 
-pub use amounts::{counted, due, figure, split, step, Parts};
+pub use amounts::{case, counted, due, figure, split, step, Case, Parts};
 pub use book::Book;
 pub use filing::filing;
 pub use loss::loss;

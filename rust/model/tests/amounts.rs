@@ -1,6 +1,6 @@
 //! F1–F13, and the limits of the first library.
 
-use model::{counted, due, figure, split, step, Parts};
+use model::{case, counted, due, figure, split, step, Case, Parts};
 
 const G: u64 = 1_000_000_000;
 
@@ -108,6 +108,42 @@ fn step_is_that_of_the_exact_amount() {
     for (amount, taken) in table {
         assert_eq!(step(amount), taken, "{amount}");
     }
+}
+
+/// "Eleven cases: below 10^10 micrograms, then one per decade, the last from 10^19, each with its
+/// step", "numbered from 0": the first amount of each, the one below it and some inside.
+#[test]
+fn cases_are_the_decades() {
+    let table: [(u64, u64); 11] = [
+        (0, 100_000_000),
+        (10_000_000_000, 1_000_000_000),
+        (100_000_000_000, 10_000_000_000),
+        (1_000_000_000_000, 100_000_000_000),
+        (10_000_000_000_000, 1_000_000_000_000),
+        (100_000_000_000_000, 10_000_000_000_000),
+        (1_000_000_000_000_000, 100_000_000_000_000),
+        (10_000_000_000_000_000, 1_000_000_000_000_000),
+        (100_000_000_000_000_000, 10_000_000_000_000_000),
+        (1_000_000_000_000_000_000, 100_000_000_000_000_000),
+        (10_000_000_000_000_000_000, 1_000_000_000_000_000_000),
+    ];
+    for (number, (from, step)) in (0u8..).zip(table) {
+        for inside in [from, from + 1, from + step, from + from / 2] {
+            assert_eq!(case(inside), Case { number, step }, "{inside}");
+        }
+        if number > 0 {
+            let before = Case {
+                number: number - 1,
+                step: table[number as usize - 1].1,
+            };
+            assert_eq!(case(from - 1), before, "{from}");
+        }
+    }
+    let last = Case {
+        number: 10,
+        step: G * G,
+    };
+    assert_eq!(case(u64::MAX), last);
 }
 
 #[test]

@@ -56,6 +56,15 @@ pub struct Parts {
     pub residue: u64,
 }
 
+/// A case of rounding.
+#[derive(Clone, Copy, Debug, Default, PartialEq, Eq, Hash)]
+pub struct Case {
+    /// Its number, 0 to 10.
+    pub number: u8,
+    /// The step in micrograms that an amount in it is rounded to.
+    pub step: u64,
+}
+
 /// The answer where the library's status is 0, and else the decline with that number.
 #[inline]
 fn answer<A>(status: u8, value: A) -> Result<A, Decline> {
@@ -124,6 +133,23 @@ pub fn split(total: u64, removal: u32, destruction: u32) -> Result<Parts, Declin
         residue,
     };
     answer(status, parts)
+}
+
+/// How an amount in micrograms is rounded, by eleven cases: case 0 below 10 kg with a step of 0.1 kg, then one for each
+/// decade, so that case n from 1 to 10 holds from 10^(9+n) with a step of 10^(8+n).
+///
+/// ```
+/// use prtr::{case, Case};
+///
+/// assert_eq!(case(9_999_999_999), Case { number: 0, step: 100_000_000 });
+/// assert_eq!(case(10_000_000_000), Case { number: 1, step: 1_000_000_000 });
+/// assert_eq!(case(u64::MAX), Case { number: 10, step: 1_000_000_000_000_000_000 });
+/// ```
+#[inline]
+pub fn case(amount: u64) -> Case {
+    let mut number = 0;
+    let step = raw::case(amount, &mut number);
+    Case { number, step }
 }
 
 /// The step that an amount is rounded to: 0.1 kg below 10 kg, else a tenth of the largest power of ten not above it.

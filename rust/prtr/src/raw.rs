@@ -16,6 +16,7 @@ mod c {
             destroyed: *mut u64,
             residue: *mut u64,
         ) -> u8;
+        pub fn prtr_case(amount: u64, number: *mut u8) -> u64;
         pub fn prtr_step(amount: u64) -> u64;
         pub fn prtr_figure(amount: u64) -> u64;
         pub fn prtr_due(class: u8, handled: u64, due: *mut u8) -> u8;
@@ -60,6 +61,12 @@ pub fn split(
     residue: &mut u64,
 ) -> u8 {
     unsafe { c::prtr_split(total, removal, destruction, released, destroyed, residue) }
+}
+
+/// The step of an amount, and the number of its case in the cell.
+#[inline]
+pub fn case(amount: u64, number: &mut u8) -> u64 {
+    unsafe { c::prtr_case(amount, number) }
 }
 
 /// The step of an amount.

@@ -98,6 +98,25 @@ fn compare_split(trial: &mut Trial, total: u64, removal: u32, destruction: u32) 
     trial.same(call, safe, model);
 }
 
+fn compare_case(trial: &mut Trial, amount: u64) {
+    let call = || format!("case({amount})");
+    let model = || {
+        let case = model::case(amount);
+        (case.number, case.step)
+    };
+    let raw = || {
+        let mut cell = BEFORE as u8;
+        let step = raw::case(amount, &mut cell);
+        (cell, step)
+    };
+    trial.same(call, raw, model);
+    let safe = || {
+        let case = prtr::case(amount);
+        (case.number, case.step)
+    };
+    trial.same(call, safe, model);
+}
+
 fn compare_due(trial: &mut Trial, class: u8, handled: u64) {
     let call = || format!("due({class}, {handled})");
     let model = || model::due(class, handled);
@@ -190,12 +209,13 @@ fn splits() {
 }
 
 #[test]
-fn steps_and_figures() {
-    let mut trial = Trial::new("steps and figures");
+fn cases_steps_and_figures() {
+    let mut trial = Trial::new("cases, steps and figures");
     let mut rng = trial.rng(1, 0);
     for amount in amounts(&mut rng, 1_000_000) {
         let step = || format!("step({amount})");
         let figure = || format!("figure({amount})");
+        compare_case(&mut trial, amount);
         trial.same(step, || raw::step(amount), || model::step(amount));
         trial.same(step, || prtr::step(amount), || model::step(amount));
         trial.same(figure, || raw::figure(amount), || model::figure(amount));

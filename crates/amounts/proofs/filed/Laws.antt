@@ -1,4 +1,4 @@
--- The step's power of ten, rounding half up to it, and how far a filed figure can be from its amount. Assumes nothing.
+-- The rows of the steps by their numbers, document 01's step, rounding half up to it, and how far a filed figure can be from its amount. Assumes nothing.
 use mathlib.Core.Path.{_≡_, refl, sym, ap, _∙_, subst}
 use mathlib.Core.Logic.{_⊎_, inl, inr}
 use mathlib.Core.Bool.{Bool, true, false}
@@ -7,8 +7,8 @@ use Prim.Native.Nat.{ℕ, zero, suc, _+_, _*_, _/_, _%_, _^_, _≤_, _<_}
 use native.Mathlib.Nat.{div-lt-iff-lt-mul, mul-div-cancel, mul-add-div-right, div-add-mod', div-eq-of-lt, div-eq-of-lt-le, div-mul-le-self, lt-div-mul-add, mod-lt}
 use native.Mathlib.Nat.{pow-suc, pow-le-pow-right, one-le-pow, le-trans, lt-of-lt-of-le, lt-irrefl, mul-le-mul-right, add-assoc}
 use native.Mathlib.Omega.{arith}
-use lib.Dec.{leb, lit<, lit≤}
-use borrow.Author.Tests.{lt-ltb, le-ltb, le-leb, lt-leb, leb-true, leb-false}
+use lib.Dec.{leb, lit<}
+use borrow.Author.Tests.{le-leb, lt-leb, leb-true, leb-false}
 use Rattle.amounts.specs.Filed.{Row, _steps_, rows, caseIn, caseOf, stepOf, halfUp, filedOf, LargestPower, TenthOfPower, StepIsTenthOfPower}
 use Rattle.amounts.specs.declared.filed.Case.{Case}
 
@@ -50,7 +50,7 @@ rows-are-decades : rows ≡ decades 0 11
 unfolding rows decades
 rows-are-decades = refl
 
--- the amounts of case n
+-- an amount of case n
 abbrev InCase : ℕ → ℕ → Type 0
 InCase n a = (begins n ≤ a) × (a < 10 ^ (10 + n))
 
@@ -67,9 +67,12 @@ reaches (suc k) n a e f h =
       | inr l ↦ (n, (h, l), rw (lt-leb (10 ^ (10 + n)) a l))
     ]
 
+-- every amount below 10 ^ 20 is in a case, and that is the one it has
 case-of-number : (a : ℕ) → a < 10 ^ 20 → (n : ℕ) × InCase n a × (caseOf a ≡ caseAt n)
 unfolding caseOf caseIn decades
-case-of-number a f = rw (le-leb 0 a (omega arith)) (reaches 10 0 a refl f (omega arith))
+case-of-number a f =
+    let z = reaches 10 0 a refl f (omega arith) in
+    (z .0, z .1, ap (λ (table : List Row). caseIn 0 (record { number = 0; step = 0 }) table a) rows-are-decades ∙ rw (le-leb 0 a (omega arith)) (z .2))
 
 -- no amount is in two cases
 one-case : (m n a : ℕ) → InCase m a → InCase n a → m ≡ n
@@ -83,7 +86,7 @@ few : (n a : ℕ) → a < 10 ^ 20 → InCase n a → n ≤ 10
 few zero a f t = omega arith
 few (suc n) a f t = omega (arith, power-back (10 + n) 20 a (t .0) f)
 
--- the case of an amount, by its number
+-- the case of an amount that is in case n
 case-is : (n a : ℕ) → a < 10 ^ 20 → InCase n a → caseOf a ≡ caseAt n
 case-is n a f t = let z = case-of-number a f in z .2 ∙ ap caseAt (one-case (z .0) n a (z .1) t)
 

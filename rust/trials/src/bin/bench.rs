@@ -162,6 +162,7 @@ fn bench_leaves() {
         |(t, r, d)| model::split(t, r, d),
     );
     let amounts = inputs(|| rng.size(u64::MAX));
+    bench_leaf("case", &amounts, prtr::case, model::case);
     bench_leaf("step", &amounts, prtr::step, model::step);
     bench_leaf("figure", &amounts, prtr::figure, model::figure);
     let handled = inputs(|| (any_class(&mut rng), rng.size(u64::MAX)));

@@ -108,6 +108,27 @@ static void figures(void)
                prtr_step(amounts[i]), prtr_figure(amounts[i]));
 }
 
+static void rounding(uint64_t amount)
+{
+    uint8_t number = 99;
+    uint64_t step = prtr_case(amount, &number);
+    printf("case %u %" PRIu64 " step %" PRIu64 " figure %" PRIu64 "\n", number, amount, step,
+           prtr_figure(amount));
+}
+
+/* Each case's first amount and the one below it, and the largest amount. */
+static void cases(void)
+{
+    uint64_t from = 10000000000;
+    rounding(0);
+    for (int number = 1; number <= 10; number++) {
+        rounding(from - 1);
+        rounding(from);
+        from *= 10;
+    }
+    rounding(UINT64_MAX);
+}
+
 static void due(uint8_t class_, uint64_t handled)
 {
     uint8_t due = 9;
@@ -223,6 +244,7 @@ int main(void)
     uint8_t journal[3 * BLOCK];
     names();
     figures();
+    cases();
     due(1, 999999999999);
     due(1, 1000000000000);
     due(3, 1000000000000);
