@@ -8,51 +8,48 @@ pub struct Case {
     pub step: u64,
 }
 
-fn numbered(number: u8, step: u64) -> Case
-    ensures { λ r. ⌜ r ≡ record { number = number; step = step } ⌝ }
-{
-    Case {
-        number: number,
-        step: step,
-    }
-}
+// A case's number and step, which stand in a line.
+struct Row(u8, u64);
 
 // The case of an amount in micrograms: that of the last bound which it reaches.
 pub fn case_of(amount: u64) -> Case
     ensures { λ r. ⌜ r ≡ caseOf amount ⌝ }
 {
-    let mut case = numbered(0, 100_000_000);
+    let mut row = Row(0, 100_000_000);
     if amount >= 10_000_000_000 {
-        case = numbered(1, 1_000_000_000);
+        row = Row(1, 1_000_000_000);
     }
     if amount >= 100_000_000_000 {
-        case = numbered(2, 10_000_000_000);
+        row = Row(2, 10_000_000_000);
     }
     if amount >= 1_000_000_000_000 {
-        case = numbered(3, 100_000_000_000);
+        row = Row(3, 100_000_000_000);
     }
     if amount >= 10_000_000_000_000 {
-        case = numbered(4, 1_000_000_000_000);
+        row = Row(4, 1_000_000_000_000);
     }
     if amount >= 100_000_000_000_000 {
-        case = numbered(5, 10_000_000_000_000);
+        row = Row(5, 10_000_000_000_000);
     }
     if amount >= 1_000_000_000_000_000 {
-        case = numbered(6, 100_000_000_000_000);
+        row = Row(6, 100_000_000_000_000);
     }
     if amount >= 10_000_000_000_000_000 {
-        case = numbered(7, 1_000_000_000_000_000);
+        row = Row(7, 1_000_000_000_000_000);
     }
     if amount >= 100_000_000_000_000_000 {
-        case = numbered(8, 10_000_000_000_000_000);
+        row = Row(8, 10_000_000_000_000_000);
     }
     if amount >= 1_000_000_000_000_000_000 {
-        case = numbered(9, 100_000_000_000_000_000);
+        row = Row(9, 100_000_000_000_000_000);
     }
     if amount >= 10_000_000_000_000_000_000 {
-        case = numbered(10, 1_000_000_000_000_000_000);
+        row = Row(10, 1_000_000_000_000_000_000);
     }
-    case
+    Case {
+        number: row.0,
+        step: row.1,
+    }
 }
 
 // The step to which an amount in micrograms is rounded.

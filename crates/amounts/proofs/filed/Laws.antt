@@ -146,13 +146,16 @@ step-is a f =
 high : (n a : ℕ) → InCase n a → 10 ^ 10 ≤ a → (p : ℕ) × LargestPower p a × (10 ^ (8 + n) ≡ p / 10)
 high zero a t h = absurd (omega (arith, t .1))
 high (suc n) a t h =
-    let tenth = ten-times (10 + n) (8 + suc n) (omega arith) in
-    (10 ^ (10 + n), record {
-      exponent = 10 + n;
-      power = refl;
-      reached = t .0;
-      largest = λ (k : ℕ) (l : 10 ^ k ≤ a). power-mono (omega (arith, power-back k (10 + suc n) a l (t .1)));
-    }, sym (ap (λ (k : ℕ). k / 10) tenth ∙ mul-div-cancel (10 ^ (8 + suc n)) (lit< tt)))
+    let tenth = ten-times (10 + n) (8 + suc n) (omega arith) in (
+      10 ^ (10 + n),
+      record {
+        exponent = 10 + n;
+        power = refl;
+        reached = t .0;
+        largest = λ (k : ℕ) (l : 10 ^ k ≤ a). power-mono (omega (arith, power-back k (10 + suc n) a l (t .1)));
+      },
+      sym (ap (λ (k : ℕ). k / 10) tenth ∙ mul-div-cancel (10 ^ (8 + suc n)) (lit< tt)),
+    )
 
 pub step-is-tenth-of-power : StepIsTenthOfPower
 unfolding stepOf
