@@ -39,9 +39,9 @@ use Rattle.text.specs.Print.{title, linesTo}
 use Rattle.journal.specs.Reading.{outcomeText}
 use Rattle.report.specs.Report.{reportAt}
 use Rattle.text.specs.Line.{lineText}
-use Rattle.writer.specs.Calls as calls
-use Rattle.writer.specs.Calls.{setUp, end, accepted}
-use Rattle.writer.specs.Page.{Page, freshPage, setUpOn}
+use Rattle.pages.specs.Calls as calls
+use Rattle.pages.specs.Calls.{setUp, end, accepted}
+use Rattle.pages.specs.Page.{Page, freshPage, setUpOn}
 use Rattle.claims.specs.Singles.{allTaken}
 use Rattle.claims.specs.Written.{joined, Sheet, ofPosts, sheets, framedFrom, blocksOf, endedCalls}
 use Rattle.claims.specs.Written as written

@@ -11,9 +11,9 @@ use Rattle.book.specs.Blocks.{partsIn, read, readAll}
 use Rattle.book.specs.declared.site.Book.{Book}
 use Rattle.journal.specs.Reading.{printedOf}
 use Rattle.text.specs.Print.{returnText}
-use Rattle.writer.specs.Calls as calls
-use Rattle.writer.specs.Calls.{setUp, end, accepted}
-use Rattle.writer.specs.Page.{freshPage}
+use Rattle.pages.specs.Calls as calls
+use Rattle.pages.specs.Calls.{setUp, end, accepted}
+use Rattle.pages.specs.Page.{freshPage}
 use Rattle.claims.specs.Singles.{allTaken}
 use Rattle.claims.specs.Standing.{Call, post, block}
 use Rattle.claims.specs.Written.{joined, blocksOf, endedCalls}

@@ -16,9 +16,9 @@ use Rattle.layout.specs.declared.holds.Holds as block
 use Rattle.layout.specs.declared.holds.Holds.the-variants.{SetUp, Posts}
 use Rattle.layout.specs.declared.outline.Outline.{Outline}
 use Rattle.post.specs.Moves.{wellFormed}
-use Rattle.writer.specs.Calls.{Call, setUp, post, end, run, accepted}
-use Rattle.writer.specs.Page.{Page, freshPage, ended}
-use Rattle.writer.specs.Tally.{partChecks, outlineAfter}
+use Rattle.pages.specs.Calls.{Call, setUp, post, end, run, accepted}
+use Rattle.pages.specs.Page.{Page, freshPage, ended}
+use Rattle.pages.specs.Tally.{partChecks, outlineAfter}
 
 -- ---- the journal
 

@@ -3,8 +3,8 @@ use Prim.Native.Nat.{ℕ, suc}
 use mathlib.Core.Path.{_≡_}
 use mathlib.Core.List.{List, [], _∷_, map}
 use Rattle.amounts.specs.Decline.{Answer, taken, declined}
-use Rattle.writer.specs.Page.{Page, freshPage, ended}
-use Rattle.writer.specs.Calls.{Call, answerTo, run, accepted}
+use Rattle.pages.specs.Page.{Page, freshPage, ended}
+use Rattle.pages.specs.Calls.{Call, answerTo, run, accepted}
 use Rattle.records.specs.Records.{Recorded, call, malformed, recordsIn}
 use Rattle.records.specs.declared.batch.WriteEnd.{WriteEnd}
 use Rattle.records.specs.declared.batch.WriteEnd.the-variants.{Written, Stopped}

@@ -4,10 +4,10 @@ use mathlib.Core.Path.{_≡_}
 use mathlib.Core.List.{List}
 use lib.ListN.{length}
 use Rattle.amounts.specs.Decline.{Answer, taken, declined}
-use Rattle.writer.specs.Calls.{Call, setUp, post, end}
-use Rattle.writer.specs.Page.{Page}
-use Rattle.writer.specs.Tally.{setUpOn, postOn, ended}
-use Rattle.writer.specs.declared.tally.Tally.{Tally}
+use Rattle.pages.specs.Calls.{Call, setUp, post, end}
+use Rattle.pages.specs.Page.{Page}
+use Rattle.pages.specs.Tally.{setUpOn, postOn, ended}
+use Rattle.pages.specs.declared.tally.Tally.{Tally}
 use Rattle.records.specs.Records.{Recorded, call, malformed}
 use Rattle.records.specs.Batch.{malformedNumber, Outcome, complete, stopped, writtenIn}
 use Rattle.records.specs.declared.batch.Stop.{Stop}

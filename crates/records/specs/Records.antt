@@ -5,7 +5,7 @@ use mathlib.Core.List.{List, [], _∷_}
 use lib.Dec.{eqb, leb}
 use lib.ListN.{length, getD, take, drop}
 use Rattle.layout.specs.Bytes.{le}
-use Rattle.writer.specs.Calls.{Call, setUp, post, end}
+use Rattle.pages.specs.Calls.{Call, setUp, post, end}
 
 -- a call, or bytes that are none
 pub data Recorded : Type 0 where

@@ -6,8 +6,8 @@ use crate::call;
 use crate::counting;
 use crate::record;
 use layout::verdict::Verdict;
-use writer::page;
-use writer::tally;
+use pages::page;
+use pages::tally;
 
 // How many bytes of the buffer are filled; or why a record wasn't taken, by the decline's number or 255, and its place from 0.
 pub enum WriteEnd {

@@ -1,13 +1,13 @@
 // A record on a page: a lent buffer, its filled length and the block being filled.
-ghost use Rattle.writer.specs.Page.{pageOf, Sound, Answers};
+ghost use Rattle.pages.specs.Page.{pageOf, Sound, Answers};
 ghost use Rattle.records.specs.Records.{recordOf, firstOf};
 ghost use Rattle.records.specs.Batch.{recordOn};
 use crate::record;
 use layout::bytes;
 use layout::verdict::Verdict;
-use writer::draft::Draft;
-use writer::page;
-use writer::page::Taken;
+use pages::draft::Draft;
+use pages::page;
+use pages::page::Taken;
 
 // A record of any tag and bytes: as its call answers, or declined by 255 where it is malformed.
 pub fn take_record(buffer: &mut [u8], filled: usize, d: Draft, tag: u8, s: &[u8]) -> Taken

@@ -1,13 +1,13 @@
 // A record on a tally alone: it answers as on a page, and nothing is written.
-ghost use Rattle.writer.specs.Tally.{Sound, Counts};
+ghost use Rattle.pages.specs.Tally.{Sound, Counts};
 ghost use Rattle.records.specs.Counting.{recordCounted};
 ghost use Rattle.records.specs.Records.{recordOf, firstOf};
 use crate::record;
 use layout::bytes;
 use layout::verdict::Verdict;
-use writer::tally;
-use writer::tally::Counted;
-use writer::tally::Tally;
+use pages::tally;
+use pages::tally::Counted;
+use pages::tally::Tally;
 
 // A record of any tag and bytes, over a buffer of so many bytes.
 fn count_record(room: usize, t: Tally, tag: u8, s: &[u8]) -> Counted

@@ -14,9 +14,9 @@ use Rattle.book.specs.Block.{blockOn}
 use Rattle.book.specs.Posts.{postsOn, singleOn}
 use Rattle.book.specs.Site.{freshBook}
 use Rattle.book.specs.Blocks.{partsTo, partsIn, refused, readAll}
-use Rattle.writer.specs.Calls.{Call, end, accepted}
-use Rattle.writer.specs.Page as page
-use Rattle.writer.specs.Page.{freshPage}
+use Rattle.pages.specs.Calls.{Call, end, accepted}
+use Rattle.pages.specs.Page as page
+use Rattle.pages.specs.Page.{freshPage}
 use Rattle.claims.specs.Singles.{allTaken}
 use Rattle.claims.specs.Written.{joined, blocksOf}
 use Rattle.claims.specs.Reread.{singly}

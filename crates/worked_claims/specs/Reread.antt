@@ -9,8 +9,8 @@ use Rattle.layout.specs.Bytes.{padded}
 use Rattle.book.specs.Site.{freshBook}
 use Rattle.book.specs.declared.site.Book.{Book}
 use Rattle.book.specs.Blocks.{partsIn, refused, readAll}
-use Rattle.writer.specs.Calls.{Call, setUp, post, accepted}
-use Rattle.writer.specs.Page.{freshPage}
+use Rattle.pages.specs.Calls.{Call, setUp, post, accepted}
+use Rattle.pages.specs.Page.{freshPage}
 use Rattle.claims.specs.Singles.{allTaken}
 use Rattle.claims.specs.Reread.{singly, TakesSingly, journalOf}
 

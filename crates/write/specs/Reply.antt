@@ -11,9 +11,9 @@ use Rattle.records.specs.Batch.{recordOn}
 use Rattle.streams.specs.Record.{isComplete}
 use Rattle.streams.specs.declared.record.Record.{Record}
 use Rattle.streams.specs.declared.record.Record.the-variants.{Complete, Malformed, End, Failed}
-use Rattle.writer.specs.Page.{Page, pageOf, Sound}
-use Rattle.writer.specs.declared.draft.Draft.{Draft}
-use Rattle.writer.specs.declared.page.Taken.{Taken}
+use Rattle.pages.specs.Page.{Page, pageOf, Sound}
+use Rattle.pages.specs.declared.draft.Draft.{Draft}
+use Rattle.pages.specs.declared.page.Taken.{Taken}
 use Rattle.write.specs.declared.reply.State.{State}
 
 abbrev pub closedState : ℕ → Draft → Bool → State

@@ -2,9 +2,9 @@
 mod reading;
 mod reply;
 
+use pages::page;
 use streams::output;
 use streams::trouble;
-use writer::page;
 
 // The bytes at the start of a buffer on standard output.
 fn show(bytes: &[u8], n: usize) {

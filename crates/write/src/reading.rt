@@ -2,9 +2,9 @@
 ghost use Rattle.write.specs.Reply.{Kept};
 use crate::reply;
 use crate::reply::State;
+use pages::page;
 use streams::input;
 use streams::record;
-use writer::page;
 
 // Up to the end of the input or to a malformed record, or to a read that failed.
 pub(crate) fn read_records(buffer: &mut [u8]) -> State

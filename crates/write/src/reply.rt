@@ -1,17 +1,17 @@
 // What becomes of a record that was read, and the line on standard error of one that isn't taken.
 ghost use mathlib.Core.Path.{_≡_};
 ghost use lib.ListN.{length};
+ghost use Rattle.pages.specs.Page.{pageOf, Sound};
 ghost use Rattle.streams.specs.Record.{Within};
-ghost use Rattle.writer.specs.Page.{pageOf, Sound};
 ghost use Rattle.write.specs.Reply.{closedState, mayFollow, Replied, Told};
 use amounts::decline::Decline;
 use layout::verdict::Verdict;
 use libc::STDERR_FILENO;
+use pages::draft::Draft;
+use pages::page::Taken;
 use records::call;
 use records::record::MALFORMED;
 use streams::record::Record;
-use writer::draft::Draft;
-use writer::page::Taken;
 
 // The page's filled length and block being filled after a record, whether another may follow, and whether the input could be read.
 pub(crate) struct State {

@@ -26,16 +26,16 @@ use denote.Struct.Laws as LL
 use denote.Struct.Rest.{all-own, own-open}
 use denote.Signature.Struct.{makes}
 use Rattle.layout.specs.declared.verdict.Verdict.{Verdict}
-use Rattle.writer.specs.declared.draft.Draft.{Draft}
-use Rattle.writer.specs.declared.page.Taken.{Taken}
+use Rattle.pages.specs.declared.draft.Draft.{Draft}
+use Rattle.pages.specs.declared.page.Taken.{Taken}
 use Rattle.writer.specs.declared.writer.Writer.{Writer}
 use Rattle.layout.proofs.verdict.Verdict as Vd
 use Rattle.layout.proofs.verdict.Verdict.Laws as Vd′
 use Rattle.writer.proofs.Again.{LentAgain, lends-again, comes-back}
-use Rattle.writer.proofs.draft.Draft as D
-use Rattle.writer.proofs.draft.Draft.Laws as D′
-use Rattle.writer.proofs.page.Taken as K
-use Rattle.writer.proofs.page.Taken.Laws as K′
+use Rattle.pages.proofs.draft.Draft as D
+use Rattle.pages.proofs.draft.Draft.Laws as D′
+use Rattle.pages.proofs.page.Taken as K
+use Rattle.pages.proofs.page.Taken.Laws as K′
 use Rattle.writer.proofs.writer.Writer as T
 use Rattle.writer.proofs.writer.Writer.Laws as T′
 

@@ -1,4 +1,1 @@
-pub mod Tally
-pub mod Page
 pub mod Writer
-pub mod Calls

@@ -3,8 +3,8 @@ use Prim.Native.Nat.{ℕ}
 use mathlib.Core.Path.{_≡_}
 use mathlib.Core.List.{List}
 use denote.Ref.{RefT, now, at-last}
-use Rattle.writer.specs.Page.{Page, pageOf, freshDraft}
-use Rattle.writer.specs.Tally.{freshTally}
+use Rattle.pages.specs.Page.{Page, pageOf, freshDraft}
+use Rattle.pages.specs.Tally.{freshTally}
 use Rattle.writer.specs.declared.writer.Writer.{Writer}
 
 abbrev pub freshWriter : RefT (List ℕ) → Writer

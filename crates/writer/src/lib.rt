@@ -1,5 +1,2 @@
-// Journals written into a lent buffer: a set-up block or a post at a time, by the checks that need no book.
-pub mod draft;
-pub mod page;
-pub mod tally;
+// The writer of journals as a struct that holds its lent buffer, over the calls of `pages`.
 pub mod writer;

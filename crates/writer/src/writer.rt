@@ -1,12 +1,12 @@
-// A writer that keeps a lent buffer, its filled length and the block being filled together. Each function takes it apart and calls one of `page`.
+// A writer that keeps a lent buffer, its filled length and the block being filled together. Each function takes it apart and calls one of `pages::page`.
 ghost use mathlib.Core.Path.{_≡_};
 ghost use Rattle.amounts.specs.Decline.{taken};
 ghost use Rattle.layout.specs.declared.verdict.Verdict.the-variants.{Accepted};
-ghost use Rattle.writer.specs.Page.{setUpOn, postOn, ended, Sound, Answers};
+ghost use Rattle.pages.specs.Page.{setUpOn, postOn, ended, Sound, Answers};
 ghost use Rattle.writer.specs.Writer.{freshWriter, page, Kept};
-use crate::draft::Draft;
-use crate::page;
 use layout::verdict::Verdict;
+use pages::draft::Draft;
+use pages::page;
 
 pub struct Writer<'a> {
     buffer: &'a mut [u8],

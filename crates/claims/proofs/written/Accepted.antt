@@ -19,10 +19,10 @@ use Rattle.layout.proofs.Checked.{AllPass, passed, pass-both}
 use Rattle.post.specs.Fields.{postAt}
 use Rattle.post.specs.Kind.{fieldsFit, kindOf}
 use Rattle.post.specs.Moves.{laidOut, floatsFit, wellFormed}
-use Rattle.writer.specs.Page.{Page, posted, postOn, withPart, setUpOn}
-use Rattle.writer.specs.Tally.{isFree, partOfKind, partChecks, setUpChecks, mayBegin, postAnswer}
-use Rattle.writer.proofs.tally.Laws.{Free, is-free, early, has-part}
-use Rattle.writer.specs.declared.tally.Tally.{Tally}
+use Rattle.pages.specs.Page.{Page, posted, postOn, withPart, setUpOn}
+use Rattle.pages.specs.Tally.{isFree, partOfKind, partChecks, setUpChecks, mayBegin, postAnswer}
+use Rattle.pages.proofs.tally.Laws.{Free, is-free, early, has-part}
+use Rattle.pages.specs.declared.tally.Tally.{Tally}
 
 -- an answer that is taken has a value
 pub has-value : {A : Type 0} (x : Answer A) → isTaken x ≡ true → (a : A) × (x ≡ taken a)

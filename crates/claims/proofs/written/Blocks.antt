@@ -23,7 +23,7 @@ use Rattle.layout.proofs.Checked.{pass-taken}
 use Rattle.layout.proofs.frame.Made.{held-made, count-made, body-made, made-passes}
 use Rattle.layout.proofs.holds.Laws.{of-posts}
 use Rattle.post.specs.Moves.{wellFormed}
-use Rattle.writer.specs.Tally.{partChecks, outlineAfter}
+use Rattle.pages.specs.Tally.{partChecks, outlineAfter}
 use Rattle.claims.specs.Written.{joined, postsBy, postsIn, postsInAll, bodyRows, outlineBy, outlinePast, Passes, AllPass}
 use Rattle.claims.proofs.written.Accepted.{not-posts, formed-long}
 use Rattle.claims.proofs.written.Places.{zeros, zeros-long, zeros-zero, EachLong, joined-long, part-is, parts-are}

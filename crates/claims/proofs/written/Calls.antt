@@ -10,9 +10,9 @@ use lib.Dec.{eqb}
 use lib.ListN.{length, length-append}
 use Rattle.amounts.specs.Decline.{Answer, taken, declined, isTaken, valueOr}
 use Rattle.layout.specs.Frame.{blockOf}
-use Rattle.writer.specs.Calls.{Call, setUp, post, end, answerTo, run, keep, accepted}
-use Rattle.writer.specs.Page as page
-use Rattle.writer.specs.Page.{Page, freshPage}
+use Rattle.pages.specs.Calls.{Call, setUp, post, end, answerTo, run, keep, accepted}
+use Rattle.pages.specs.Page as page
+use Rattle.pages.specs.Page.{Page, freshPage}
 use Rattle.claims.specs.Written.{Sheet, ofPosts, sheets, framedFrom, blocksOf, endedCalls, postsTaken}
 use Rattle.claims.proofs.written.Accepted.{PostTaken, set-up-taken, post-taken}
 use Rattle.claims.proofs.written.Shows.{Shows, shows-fresh}

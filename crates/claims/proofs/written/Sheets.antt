@@ -7,7 +7,7 @@ use native.Mathlib.Omega.{arith}
 use lib.Dec.{eqb}
 use lib.ListN.{length}
 use Rattle.layout.specs.Frame.{blockOf}
-use Rattle.writer.specs.Calls.{Call, setUp, post, end}
+use Rattle.pages.specs.Calls.{Call, setUp, post, end}
 use Rattle.claims.specs.Written.{Sheet, sheet, ofPosts, sheets, framedFrom, postsTaken}
 
 -- the sheets that an accepted call makes where posts wait

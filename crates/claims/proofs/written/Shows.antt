@@ -13,9 +13,9 @@ use Rattle.layout.specs.declared.holds.SetupPart.{SetupPart}
 use Rattle.layout.specs.declared.outline.Outline.{Outline}
 use Rattle.post.specs.Moves.{wellFormed}
 use Rattle.layout.specs.Bytes.{placed}
-use Rattle.writer.specs.Page.{Page, freshPage}
-use Rattle.writer.specs.Tally.{outlineAfter}
-use Rattle.writer.specs.declared.tally.Tally.{Tally}
+use Rattle.pages.specs.Page.{Page, freshPage}
+use Rattle.pages.specs.Tally.{outlineAfter}
+use Rattle.pages.specs.declared.tally.Tally.{Tally}
 use Rattle.claims.specs.Written.{joined, postsIn, postsInAll, outlinePast, Passes, AllPass}
 use Rattle.claims.proofs.written.Accepted.{SetUpTaken}
 use Rattle.claims.proofs.written.Blocks.{outlineOver, outline-last, pass-last, posts-last, set-up-holds, set-up-outline, set-up-passes, EachFormed, formed-last, each-long}

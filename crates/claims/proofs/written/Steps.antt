@@ -12,13 +12,13 @@ use Rattle.layout.specs.Frame.{bodyOf, blockOf}
 use Rattle.layout.specs.declared.holds.SetupPart.{SetupPart}
 use Rattle.layout.specs.declared.outline.Outline.{Outline}
 use Rattle.layout.proofs.frame.Made.{made-long}
-use Rattle.writer.specs.Calls.{setUp}
+use Rattle.pages.specs.Calls.{setUp}
 use Rattle.layout.specs.Bytes.{placed}
-use Rattle.writer.specs.Page as page
-use Rattle.writer.specs.Page.{Page, pageOf, draftOf, withPart, finished, postsBlock, withPost, posted}
-use Rattle.writer.specs.Tally as tally
-use Rattle.writer.specs.Tally.{tallyOf}
-use Rattle.writer.specs.declared.tally.Tally.{Tally}
+use Rattle.pages.specs.Page as page
+use Rattle.pages.specs.Page.{Page, pageOf, draftOf, withPart, finished, postsBlock, withPost, posted}
+use Rattle.pages.specs.Tally as tally
+use Rattle.pages.specs.Tally.{tallyOf}
+use Rattle.pages.specs.declared.tally.Tally.{Tally}
 use Rattle.claims.specs.Written.{joined}
 use Rattle.claims.proofs.written.Accepted.{SetUpTaken, PostTaken}
 use Rattle.claims.proofs.written.Blocks.{each-long, postsBody, blockOfPosts, body-long}

@@ -5,8 +5,8 @@ use mathlib.Core.List.{List, [], _∷_, map}
 use Prim.Native.Nat.{ℕ, suc}
 use native.Mathlib.Omega.{arith}
 use Rattle.amounts.specs.Decline.{Answer, taken, declined, isTaken, valueOr}
-use Rattle.writer.specs.Calls.{Call, answerTo, after, keep, run, accepted}
-use Rattle.writer.specs.Page.{Page, freshPage, ended}
+use Rattle.pages.specs.Calls.{Call, answerTo, after, keep, run, accepted}
+use Rattle.pages.specs.Page.{Page, freshPage, ended}
 use Rattle.records.specs.Records.{Recorded, call, malformed, recordsIn}
 use Rattle.records.specs.Batch.{Outcome, complete, onward, recordOn, writeAll, callsOf, BatchIsItsCalls}
 

@@ -11,13 +11,13 @@ use Rattle.amounts.specs.Decline.{Answer, taken, declined}
 use Rattle.amounts.specs.declared.decline.Decline.{Decline}
 use Rattle.layout.specs.declared.verdict.Verdict.{Verdict}
 use Rattle.layout.specs.declared.verdict.Verdict.the-variants.{Accepted, Declined}
-use Rattle.writer.proofs.page.Laws.{page-fresh}
-use Rattle.writer.proofs.tally.Laws.{tally-fresh}
-use Rattle.writer.specs.Page.{Page, pageOf, ended, freshDraft, freshPage, Sound, Answers}
-use Rattle.writer.specs.Tally as tallies
-use Rattle.writer.specs.Tally.{freshTally, Counts}
-use Rattle.writer.specs.declared.draft.Draft.{Draft}
-use Rattle.writer.specs.declared.tally.Tally.{Tally}
+use Rattle.pages.proofs.page.Laws.{page-fresh}
+use Rattle.pages.proofs.tally.Laws.{tally-fresh}
+use Rattle.pages.specs.Page.{Page, pageOf, ended, freshDraft, freshPage, Sound, Answers}
+use Rattle.pages.specs.Tally as tallies
+use Rattle.pages.specs.Tally.{freshTally, Counts}
+use Rattle.pages.specs.declared.draft.Draft.{Draft}
+use Rattle.pages.specs.declared.tally.Tally.{Tally}
 use Rattle.records.specs.Counting.{recordCounted, stopOf, StopsIn, Filled}
 use Rattle.records.specs.Records.{Recorded, call, malformed, spanOf, firstOf, restOf, behind, recordsIn}
 use Rattle.records.specs.Batch.{Outcome, complete, stopped, onward, recordOn, writeAll, writtenIn, endOf, leftIn}

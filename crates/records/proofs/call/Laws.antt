@@ -6,7 +6,7 @@ use lib.ListN.{length, getD, drop}
 use Rattle.amounts.specs.Decline.{Answer, taken, declined}
 use Rattle.layout.specs.declared.verdict.Verdict.{Verdict}
 use Rattle.layout.specs.declared.verdict.Verdict.the-variants.{Declined}
-use Rattle.writer.specs.Page.{Page, setUpOn, postOn, ended, Sound, Answers}
+use Rattle.pages.specs.Page.{Page, setUpOn, postOn, ended, Sound, Answers}
 use Rattle.records.specs.Records.{recordOf, tagOf, spanOf, bytesOf, firstOf}
 use Rattle.records.specs.Batch.{recordOn}
 use Rattle.records.proofs.record.Laws.{set-up-is, post-is, end-is, none-is, first-short, first-complete}

@@ -7,7 +7,7 @@ use native.Mathlib.Decide.{ℕ-discrete}
 use borrow.Author.Tests.{eq-eqb, ne-eqb, le-leb, lt-leb}
 use lib.ListN.{length, take, drop, length-drop}
 use Rattle.layout.specs.Bytes.{le, part}
-use Rattle.writer.specs.Calls.{post, end}
+use Rattle.pages.specs.Calls.{post, end}
 use Rattle.records.specs.Records.{Recorded, call, malformed, setUpOf, recordOf, tagOf, spanOf, bytesOf, firstOf, restOf, behind, recordsTo, recordsIn}
 
 -- ---- a record by its tag

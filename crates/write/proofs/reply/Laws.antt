@@ -6,9 +6,9 @@ use Prim.Native.Nat.{ℕ}
 use lib.ListN.{length}
 use Rattle.streams.specs.Record.{isComplete}
 use Rattle.streams.specs.declared.record.Record.{Record}
-use Rattle.writer.specs.Page.{pageOf, Sound}
-use Rattle.writer.specs.declared.draft.Draft.{Draft}
-use Rattle.writer.specs.declared.page.Taken.{Taken}
+use Rattle.pages.specs.Page.{pageOf, Sound}
+use Rattle.pages.specs.declared.draft.Draft.{Draft}
+use Rattle.pages.specs.declared.page.Taken.{Taken}
 use Rattle.write.specs.Reply.{closedState, Told, Replied, madeBy, couldRead}
 use Rattle.write.specs.declared.reply.State.{State}
 

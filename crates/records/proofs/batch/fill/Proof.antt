@@ -9,7 +9,7 @@ use Rattle.layout.specs.declared.verdict.Verdict.the-variants.{Accepted}
 use Rattle.layout.proofs.bytes.Laws.{tail-is}
 use Rattle.records.specs.Records.{spanOf}
 use borrow.Author.Needs.{needs}
-use Rattle.writer.specs.Page.{Page, pageOf}
+use Rattle.pages.specs.Page.{Page, pageOf}
 use Rattle.records.proofs.batch.Laws.{Upto, upto-none, upto-within, upto-next, upto-stop, upto-end}
 use Rattle.records.proofs.batch.fill.Statement.{statement}
 use Rattle.records.proofs.batch.fill.Tie as tie

@@ -2,7 +2,7 @@ use mathlib.Core.Path.{subst}
 use Prim.Native.Nat.{ℕ, _<_}
 use lib.ListN.{length}
 use denote.Ref.{now}
-use Rattle.writer.specs.Page.{Page, pageOf}
+use Rattle.pages.specs.Page.{Page, pageOf}
 use Rattle.records.proofs.call.Laws.{on-short, on-complete, answers-as, answers-none}
 use borrow.Author.Needs.{needs}
 use Rattle.records.proofs.call.take_first.Statement.{statement}

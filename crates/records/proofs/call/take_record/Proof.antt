@@ -1,5 +1,5 @@
 use denote.Ref.{now}
-use Rattle.writer.specs.Page.{Page, pageOf}
+use Rattle.pages.specs.Page.{Page, pageOf}
 use Rattle.records.proofs.call.Laws.{on-set-up, on-post, on-end, on-none, answers-as, answers-none}
 use borrow.Author.Needs.{needs}
 use Rattle.records.proofs.call.take_record.Statement.{statement}

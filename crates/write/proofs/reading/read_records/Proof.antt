@@ -7,9 +7,9 @@ use denote.Ref.{now}
 use lib.ListN.{length}
 use Rattle.streams.specs.Input.{mostParts}
 use Rattle.streams.specs.Record.{Within}
-use Rattle.writer.specs.Page.{pageOf, Sound}
-use Rattle.writer.specs.declared.draft.Draft.{Draft}
-use Rattle.writer.proofs.page.Laws.{page-fresh}
+use Rattle.pages.specs.Page.{pageOf, Sound}
+use Rattle.pages.specs.declared.draft.Draft.{Draft}
+use Rattle.pages.proofs.page.Laws.{page-fresh}
 use borrow.Author.Needs.{needs}
 use Rattle.write.proofs.reading.read_records.Statement.{statement}
 use Rattle.write.proofs.reading.read_records.Tie as tie

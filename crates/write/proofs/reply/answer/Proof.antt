@@ -5,7 +5,7 @@ use native.Mathlib.Omega.{arith}
 use denote.Ref.{now}
 use lib.ListN.{length, length-take}
 use Rattle.streams.specs.Record.{isComplete, Within}
-use Rattle.writer.specs.Page.{pageOf}
+use Rattle.pages.specs.Page.{pageOf}
 use Rattle.write.specs.Reply.{madeBy, couldRead}
 use Rattle.write.proofs.reply.Laws.{closed-replied, told-replied}
 use borrow.Author.Needs.{needs}

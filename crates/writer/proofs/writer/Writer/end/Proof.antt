@@ -46,23 +46,23 @@ use denote.Triple.Table.{entered, cited}
 use denote.Triple.Walked.{says, needs, Stays, stay-ref, walkOf, goes-ref, Walks, ends-at, walked, walk-meets}
 use denote.Signature.{Slot, plain, namedLft}
 use Rattle.amounts.specs.Decline.{taken}
-use Rattle.writer.specs.Page.{pageOf, ended, Sound, Answers}
+use Rattle.pages.specs.Page.{pageOf, ended, Sound, Answers}
 use Rattle.writer.specs.Writer.{page}
-use Rattle.writer.specs.declared.draft.Draft.{Draft}
-use Rattle.writer.specs.declared.page.Taken.{Taken}
+use Rattle.pages.specs.declared.draft.Draft.{Draft}
+use Rattle.pages.specs.declared.page.Taken.{Taken}
 use Rattle.writer.specs.declared.writer.Writer.{Writer}
 use Rattle.writer.proofs.Held as held
 use Rattle.writer.proofs.Held.{draft-val, writer-val, filled-fits, draft-is, slice-at, writer-at, second, Row}
-use Rattle.writer.proofs.draft.Draft as D
-use Rattle.writer.proofs.draft.Draft.Laws as D′
-use Rattle.writer.proofs.page.Taken as K
-use Rattle.writer.proofs.page.Taken.Laws as K′
+use Rattle.pages.proofs.draft.Draft as D
+use Rattle.pages.proofs.draft.Draft.Laws as D′
+use Rattle.pages.proofs.page.Taken as K
+use Rattle.pages.proofs.page.Taken.Laws as K′
 use Rattle.writer.proofs.writer.Writer as T
 use Rattle.writer.proofs.writer.Writer.Laws as T′
-use Rattle.writer.proofs.page.end_posts as end-posts
-use Rattle.writer.proofs.page.end_posts.Symbol as end-posts-def
-use Rattle.writer.proofs.page.end_posts.Symbol.{name as #end-posts}
-use Rattle.writer.proofs.page.end_posts.Met as end-posts-thm
+use Rattle.pages.proofs.page.end_posts as end-posts
+use Rattle.pages.proofs.page.end_posts.Symbol as end-posts-def
+use Rattle.pages.proofs.page.end_posts.Symbol.{name as #end-posts}
+use Rattle.pages.proofs.page.end_posts.Met as end-posts-thm
 use Rattle.writer.proofs.writer.Writer.end.Key.{name as #end}
 use Rattle.writer.proofs.writer.Writer.end as end
 use Rattle.writer.proofs.writer.Writer.end.Statement as stated
@@ -233,4 +233,4 @@ end-spec 𝓤 H 𝓜 𝓖 𝓡 =
     entered 𝓤 H (tripleOf 𝓤 H (𝓖 .A) end.signature (end.spec 𝓤 H (𝓖 .A) (𝓜 .mem) (𝓡 .run)))
     (tables 𝓤 H 𝓜 𝓡 code.env .C) (tables 𝓤 H 𝓜 𝓡 code.env .Λ) #end code.function (code.unfolded 𝓤 H 𝓜 𝓡)
     (end-meets 𝓤 H (𝓖 .A) (givenOf 𝓤 H 𝓜 𝓖) (𝓜 .mem) (𝓡 .run) (tablesOf 𝓤 H 𝓜 (tables 𝓤 H 𝓜 𝓡 code.env))
-    (cited 𝓤 H (EndPosts 𝓤 H (𝓖 .A) (𝓜 .mem) (𝓡 .run)) 𝓜 𝓡 code.env #end-posts end-posts-def.routine code.calls-writer·page·end-posts (end-posts-thm.met 𝓤 H 𝓜 𝓖 𝓡)))
+    (cited 𝓤 H (EndPosts 𝓤 H (𝓖 .A) (𝓜 .mem) (𝓡 .run)) 𝓜 𝓡 code.env #end-posts end-posts-def.routine code.calls-pages·page·end-posts (end-posts-thm.met 𝓤 H 𝓜 𝓖 𝓡)))

@@ -41,19 +41,19 @@ use denote.Triple.Clauses.{ensured, lasts}
 use denote.Triple.Table.{entered, cited}
 use denote.Triple.Walked.{says, Stays, stay-dropped, walkOf, goes-spent-slice, Walks, ends-at, walked, walk-meets}
 use denote.Exit.{no}
-use Rattle.writer.specs.Page.{freshDraft, Sound}
-use Rattle.writer.specs.Tally.{freshTally}
+use Rattle.pages.specs.Page.{freshDraft, Sound}
+use Rattle.pages.specs.Tally.{freshTally}
 use Rattle.writer.specs.Writer.{page}
-use Rattle.writer.specs.declared.draft.Draft.{Draft}
+use Rattle.pages.specs.declared.draft.Draft.{Draft}
 use Rattle.writer.specs.declared.writer.Writer.{Writer}
-use Rattle.writer.proofs.page.Laws.{page-fresh}
+use Rattle.pages.proofs.page.Laws.{page-fresh}
 use Rattle.writer.proofs.Held.{draft-val}
-use Rattle.writer.proofs.draft.Draft as D
-use Rattle.writer.proofs.draft.Draft.Laws as D′
-use Rattle.writer.proofs.page.fresh as fresh
-use Rattle.writer.proofs.page.fresh.Symbol as fresh-def
-use Rattle.writer.proofs.page.fresh.Symbol.{name as #fresh}
-use Rattle.writer.proofs.page.fresh.Met as fresh-thm
+use Rattle.pages.proofs.draft.Draft as D
+use Rattle.pages.proofs.draft.Draft.Laws as D′
+use Rattle.pages.proofs.page.fresh as fresh
+use Rattle.pages.proofs.page.fresh.Symbol as fresh-def
+use Rattle.pages.proofs.page.fresh.Symbol.{name as #fresh}
+use Rattle.pages.proofs.page.fresh.Met as fresh-thm
 use Rattle.writer.proofs.writer.Writer as T
 use Rattle.writer.proofs.writer.Writer.Laws as T′
 use Rattle.writer.proofs.writer.Writer.new.Key.{name as #new}
@@ -154,4 +154,4 @@ new-spec 𝓤 H 𝓜 𝓖 𝓡 =
     entered 𝓤 H (tripleOf 𝓤 H (𝓖 .A) new.signature (new.spec 𝓤 H (𝓖 .A) (𝓜 .mem) (𝓡 .run)))
     (tables 𝓤 H 𝓜 𝓡 code.env .C) (tables 𝓤 H 𝓜 𝓡 code.env .Λ) #new code.function (code.unfolded 𝓤 H 𝓜 𝓡)
     (new-meets 𝓤 H (𝓖 .A) (givenOf 𝓤 H 𝓜 𝓖) (𝓜 .mem) (𝓡 .run) (tablesOf 𝓤 H 𝓜 (tables 𝓤 H 𝓜 𝓡 code.env))
-    (cited 𝓤 H (Fresh 𝓤 H (𝓖 .A) (𝓜 .mem) (𝓡 .run)) 𝓜 𝓡 code.env #fresh fresh-def.routine code.calls-writer·page·fresh (fresh-thm.met 𝓤 H 𝓜 𝓖 𝓡)))
+    (cited 𝓤 H (Fresh 𝓤 H (𝓖 .A) (𝓜 .mem) (𝓡 .run)) 𝓜 𝓡 code.env #fresh fresh-def.routine code.calls-pages·page·fresh (fresh-thm.met 𝓤 H 𝓜 𝓖 𝓡)))

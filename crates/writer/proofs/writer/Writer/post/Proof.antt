@@ -47,25 +47,25 @@ use denote.Triple.Table.{entered, cited}
 use denote.Triple.Walked.{says, needs, Stays, stay-ref, stay-none-slice, walkOf, goes-ref, goes-none-slice, Walks, ends-at, walked, walk-meets}
 use denote.Exit.{yes}
 use denote.Signature.{Slot, plain, namedLft}
-use Rattle.writer.specs.Page.{pageOf, postOn, Sound, Answers}
+use Rattle.pages.specs.Page.{pageOf, postOn, Sound, Answers}
 use Rattle.writer.specs.Writer.{page}
-use Rattle.writer.specs.declared.draft.Draft.{Draft}
-use Rattle.writer.specs.declared.page.Taken.{Taken}
+use Rattle.pages.specs.declared.draft.Draft.{Draft}
+use Rattle.pages.specs.declared.page.Taken.{Taken}
 use Rattle.writer.specs.declared.writer.Writer.{Writer}
 use Rattle.layout.proofs.verdict.Verdict as Vd
 use Rattle.layout.proofs.verdict.Verdict.Laws as Vd′
 use Rattle.writer.proofs.Held as held
 use Rattle.writer.proofs.Held.{verdict-val, draft-val, writer-val, verdict-is, filled-fits, draft-is, slice-at, writer-at, second, Row}
-use Rattle.writer.proofs.draft.Draft as D
-use Rattle.writer.proofs.draft.Draft.Laws as D′
-use Rattle.writer.proofs.page.Taken as K
-use Rattle.writer.proofs.page.Taken.Laws as K′
+use Rattle.pages.proofs.draft.Draft as D
+use Rattle.pages.proofs.draft.Draft.Laws as D′
+use Rattle.pages.proofs.page.Taken as K
+use Rattle.pages.proofs.page.Taken.Laws as K′
 use Rattle.writer.proofs.writer.Writer as T
 use Rattle.writer.proofs.writer.Writer.Laws as T′
-use Rattle.writer.proofs.page.take_post as take-post
-use Rattle.writer.proofs.page.take_post.Symbol as take-post-def
-use Rattle.writer.proofs.page.take_post.Symbol.{name as #take-post}
-use Rattle.writer.proofs.page.take_post.Met as take-post-thm
+use Rattle.pages.proofs.page.take_post as take-post
+use Rattle.pages.proofs.page.take_post.Symbol as take-post-def
+use Rattle.pages.proofs.page.take_post.Symbol.{name as #take-post}
+use Rattle.pages.proofs.page.take_post.Met as take-post-thm
 use Rattle.writer.proofs.writer.Writer.post.Key.{name as #post}
 use Rattle.writer.proofs.writer.Writer.post as post
 use Rattle.writer.proofs.writer.Writer.post.Statement as stated
@@ -252,4 +252,4 @@ post-spec 𝓤 H 𝓜 𝓖 𝓡 =
     entered 𝓤 H (tripleOf 𝓤 H (𝓖 .A) post.signature (post.spec 𝓤 H (𝓖 .A) (𝓜 .mem) (𝓡 .run)))
     (tables 𝓤 H 𝓜 𝓡 code.env .C) (tables 𝓤 H 𝓜 𝓡 code.env .Λ) #post code.function (code.unfolded 𝓤 H 𝓜 𝓡)
     (post-meets 𝓤 H (𝓖 .A) (givenOf 𝓤 H 𝓜 𝓖) (𝓜 .mem) (𝓡 .run) (tablesOf 𝓤 H 𝓜 (tables 𝓤 H 𝓜 𝓡 code.env))
-    (cited 𝓤 H (TakePost 𝓤 H (𝓖 .A) (𝓜 .mem) (𝓡 .run)) 𝓜 𝓡 code.env #take-post take-post-def.routine code.calls-writer·page·take-post (take-post-thm.met 𝓤 H 𝓜 𝓖 𝓡)))
+    (cited 𝓤 H (TakePost 𝓤 H (𝓖 .A) (𝓜 .mem) (𝓡 .run)) 𝓜 𝓡 code.env #take-post take-post-def.routine code.calls-pages·page·take-post (take-post-thm.met 𝓤 H 𝓜 𝓖 𝓡)))

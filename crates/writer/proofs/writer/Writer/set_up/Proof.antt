@@ -47,25 +47,25 @@ use denote.Triple.Table.{entered, cited}
 use denote.Triple.Walked.{says, needs, Stays, stay-ref, stay-none, stay-none-slice, walkOf, Goes, goes-ref, goes-none, goes-none-slice, Walks, ends-at, walked, walk-meets}
 use denote.Exit.{yes}
 use denote.Signature.{Slot, plain, namedLft}
-use Rattle.writer.specs.Page.{pageOf, setUpOn, Sound, Answers}
+use Rattle.pages.specs.Page.{pageOf, setUpOn, Sound, Answers}
 use Rattle.writer.specs.Writer.{page}
-use Rattle.writer.specs.declared.draft.Draft.{Draft}
-use Rattle.writer.specs.declared.page.Taken.{Taken}
+use Rattle.pages.specs.declared.draft.Draft.{Draft}
+use Rattle.pages.specs.declared.page.Taken.{Taken}
 use Rattle.writer.specs.declared.writer.Writer.{Writer}
 use Rattle.layout.proofs.verdict.Verdict as Vd
 use Rattle.layout.proofs.verdict.Verdict.Laws as Vd′
 use Rattle.writer.proofs.Held as held
 use Rattle.writer.proofs.Held.{verdict-val, draft-val, writer-val, verdict-is, filled-fits, draft-is, slice-at, writer-at, second, Row}
-use Rattle.writer.proofs.draft.Draft as D
-use Rattle.writer.proofs.draft.Draft.Laws as D′
-use Rattle.writer.proofs.page.Taken as K
-use Rattle.writer.proofs.page.Taken.Laws as K′
+use Rattle.pages.proofs.draft.Draft as D
+use Rattle.pages.proofs.draft.Draft.Laws as D′
+use Rattle.pages.proofs.page.Taken as K
+use Rattle.pages.proofs.page.Taken.Laws as K′
 use Rattle.writer.proofs.writer.Writer as T
 use Rattle.writer.proofs.writer.Writer.Laws as T′
-use Rattle.writer.proofs.page.take_set_up as take-set-up
-use Rattle.writer.proofs.page.take_set_up.Symbol as take-set-up-def
-use Rattle.writer.proofs.page.take_set_up.Symbol.{name as #take-set-up}
-use Rattle.writer.proofs.page.take_set_up.Met as take-set-up-thm
+use Rattle.pages.proofs.page.take_set_up as take-set-up
+use Rattle.pages.proofs.page.take_set_up.Symbol as take-set-up-def
+use Rattle.pages.proofs.page.take_set_up.Symbol.{name as #take-set-up}
+use Rattle.pages.proofs.page.take_set_up.Met as take-set-up-thm
 use Rattle.writer.proofs.writer.Writer.set_up.Key.{name as #set-up}
 use Rattle.writer.proofs.writer.Writer.set_up as set-up
 use Rattle.writer.proofs.writer.Writer.set_up.Statement as stated
@@ -269,5 +269,5 @@ set-up-spec 𝓤 H 𝓜 𝓖 𝓡 =
     entered 𝓤 H (tripleOf 𝓤 H (𝓖 .A) set-up.signature (set-up.spec 𝓤 H (𝓖 .A) (𝓜 .mem) (𝓡 .run)))
     (tables 𝓤 H 𝓜 𝓡 code.env .C) (tables 𝓤 H 𝓜 𝓡 code.env .Λ) #set-up code.function (code.unfolded 𝓤 H 𝓜 𝓡)
     (set-up-meets 𝓤 H (𝓖 .A) (givenOf 𝓤 H 𝓜 𝓖) (𝓜 .mem) (𝓡 .run) (tablesOf 𝓤 H 𝓜 (tables 𝓤 H 𝓜 𝓡 code.env))
-    (cited 𝓤 H (TakeSetUp 𝓤 H (𝓖 .A) (𝓜 .mem) (𝓡 .run)) 𝓜 𝓡 code.env #take-set-up take-set-up-def.routine code.calls-writer·page·take-set-up
+    (cited 𝓤 H (TakeSetUp 𝓤 H (𝓖 .A) (𝓜 .mem) (𝓡 .run)) 𝓜 𝓡 code.env #take-set-up take-set-up-def.routine code.calls-pages·page·take-set-up
     (take-set-up-thm.met 𝓤 H 𝓜 𝓖 𝓡)))
