@@ -33,7 +33,7 @@ rows =
     ∷ 10 ^ 19 steps 10 ^ 18
     ∷ []
 
--- the last of the rows, numbered on from n, that the amount reaches; last is that of the rows before them
+-- the last row that an amount reaches: the rows are numbered on from n, and `last` is the one that it reached before them
 unfoldable pub caseIn : ℕ → Case → List Row → ℕ → Case
 caseIn n last [] a = last
 caseIn n last (row ∷ rows) a =

@@ -8,47 +8,47 @@ pub struct Case {
     pub step: u64,
 }
 
-// A case's number and step, which stand in a line.
-struct Row(u8, u64);
+// A case as it stands in a line: its number and its step.
+struct Numbered(u8, u64);
 
 // The case of an amount in micrograms: that of the last bound which it reaches.
 pub fn case_of(amount: u64) -> Case
     ensures { λ r. ⌜ r ≡ caseOf amount ⌝ }
 {
-    let mut row = Row(0, 100_000_000);
+    let mut case = Numbered(0, 100_000_000);
     if amount >= 10_000_000_000 {
-        row = Row(1, 1_000_000_000);
+        case = Numbered(1, 1_000_000_000);
     }
     if amount >= 100_000_000_000 {
-        row = Row(2, 10_000_000_000);
+        case = Numbered(2, 10_000_000_000);
     }
     if amount >= 1_000_000_000_000 {
-        row = Row(3, 100_000_000_000);
+        case = Numbered(3, 100_000_000_000);
     }
     if amount >= 10_000_000_000_000 {
-        row = Row(4, 1_000_000_000_000);
+        case = Numbered(4, 1_000_000_000_000);
     }
     if amount >= 100_000_000_000_000 {
-        row = Row(5, 10_000_000_000_000);
+        case = Numbered(5, 10_000_000_000_000);
     }
     if amount >= 1_000_000_000_000_000 {
-        row = Row(6, 100_000_000_000_000);
+        case = Numbered(6, 100_000_000_000_000);
     }
     if amount >= 10_000_000_000_000_000 {
-        row = Row(7, 1_000_000_000_000_000);
+        case = Numbered(7, 1_000_000_000_000_000);
     }
     if amount >= 100_000_000_000_000_000 {
-        row = Row(8, 10_000_000_000_000_000);
+        case = Numbered(8, 10_000_000_000_000_000);
     }
     if amount >= 1_000_000_000_000_000_000 {
-        row = Row(9, 100_000_000_000_000_000);
+        case = Numbered(9, 100_000_000_000_000_000);
     }
     if amount >= 10_000_000_000_000_000_000 {
-        row = Row(10, 1_000_000_000_000_000_000);
+        case = Numbered(10, 1_000_000_000_000_000_000);
     }
     Case {
-        number: row.0,
-        step: row.1,
+        number: case.0,
+        step: case.1,
     }
 }
 

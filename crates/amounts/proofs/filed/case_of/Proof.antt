@@ -1,60 +1,60 @@
--- Where the tests meet, the row is the case of every amount that doesn't reach the next one.
+-- Where two ways meet behind a test, the case is that of every amount which doesn't reach the next row.
 use mathlib.Core.Path.{refl, ap}
 use mathlib.Core.Logic.{inl, inr}
 use native.Mathlib.Omega.{arith}
 use Rattle.amounts.specs.declared.filed.Case.{Case}
-use Rattle.amounts.specs.declared.filed.Row.{Row}
+use Rattle.amounts.specs.declared.filed.Numbered.{Numbered}
 use Rattle.amounts.proofs.filed.Laws.{UpTo, up-to-first, up-to-next}
 use Rattle.amounts.proofs.filed.case_of.Statement.{statement}
 use Rattle.amounts.proofs.filed.case_of.Tie as tie
 
-abbrev caseOn : Row → Case
-caseOn row = record { number = row .0; step = row .1 }
+abbrev asCase : Numbered → Case
+asCase case = record { number = case .0; step = case .1 }
 
-up-1 : (c : tie.Joined1) → UpTo 1 (c .before .args .amount) (caseOn (c .if1 .row))
+up-1 : (c : tie.Joined1) → UpTo 1 (c .before .args .amount) (asCase (c .if1 .case))
 up-1 c =
     up-to-next 0 _ _ _ (c .before .fits .amount .fits) (up-to-first _)
-    (elim (c .if1 .came) [ inl w ↦ inl (w .0 .taken, ap caseOn (w .1)) | inr w ↦ inr (w .0 .left, ap caseOn (w .1)) ])
+    (elim (c .if1 .came) [ inl w ↦ inl (w .0 .taken, ap asCase (w .1)) | inr w ↦ inr (w .0 .left, ap asCase (w .1)) ])
 
-up-2 : (c : tie.Joined2) → UpTo 2 (c .before .before .args .amount) (caseOn (c .if2 .row))
+up-2 : (c : tie.Joined2) → UpTo 2 (c .before .before .args .amount) (asCase (c .if2 .case))
 up-2 c =
     up-to-next 1 _ _ _ (c .before .before .fits .amount .fits) (up-1 (c .before))
-    (elim (c .if2 .came) [ inl w ↦ inl (w .0 .taken, ap caseOn (w .1)) | inr w ↦ inr (w .0 .left, ap caseOn (w .1)) ])
+    (elim (c .if2 .came) [ inl w ↦ inl (w .0 .taken, ap asCase (w .1)) | inr w ↦ inr (w .0 .left, ap asCase (w .1)) ])
 
-up-3 : (c : tie.Joined3) → UpTo 3 (c .before .before .before .args .amount) (caseOn (c .if3 .row))
+up-3 : (c : tie.Joined3) → UpTo 3 (c .before .before .before .args .amount) (asCase (c .if3 .case))
 up-3 c =
     up-to-next 2 _ _ _ (c .before .before .before .fits .amount .fits) (up-2 (c .before))
-    (elim (c .if3 .came) [ inl w ↦ inl (w .0 .taken, ap caseOn (w .1)) | inr w ↦ inr (w .0 .left, ap caseOn (w .1)) ])
+    (elim (c .if3 .came) [ inl w ↦ inl (w .0 .taken, ap asCase (w .1)) | inr w ↦ inr (w .0 .left, ap asCase (w .1)) ])
 
-up-4 : (c : tie.Joined4) → UpTo 4 (c .before .before .before .before .args .amount) (caseOn (c .if4 .row))
+up-4 : (c : tie.Joined4) → UpTo 4 (c .before .before .before .before .args .amount) (asCase (c .if4 .case))
 up-4 c =
     up-to-next 3 _ _ _ (c .before .before .before .before .fits .amount .fits) (up-3 (c .before))
-    (elim (c .if4 .came) [ inl w ↦ inl (w .0 .taken, ap caseOn (w .1)) | inr w ↦ inr (w .0 .left, ap caseOn (w .1)) ])
+    (elim (c .if4 .came) [ inl w ↦ inl (w .0 .taken, ap asCase (w .1)) | inr w ↦ inr (w .0 .left, ap asCase (w .1)) ])
 
-up-5 : (c : tie.Joined5) → UpTo 5 (c .before .before .before .before .before .args .amount) (caseOn (c .if5 .row))
+up-5 : (c : tie.Joined5) → UpTo 5 (c .before .before .before .before .before .args .amount) (asCase (c .if5 .case))
 up-5 c =
     up-to-next 4 _ _ _ (c .before .before .before .before .before .fits .amount .fits) (up-4 (c .before))
-    (elim (c .if5 .came) [ inl w ↦ inl (w .0 .taken, ap caseOn (w .1)) | inr w ↦ inr (w .0 .left, ap caseOn (w .1)) ])
+    (elim (c .if5 .came) [ inl w ↦ inl (w .0 .taken, ap asCase (w .1)) | inr w ↦ inr (w .0 .left, ap asCase (w .1)) ])
 
-up-6 : (c : tie.Joined6) → UpTo 6 (c .before .before .before .before .before .before .args .amount) (caseOn (c .if6 .row))
+up-6 : (c : tie.Joined6) → UpTo 6 (c .before .before .before .before .before .before .args .amount) (asCase (c .if6 .case))
 up-6 c =
     up-to-next 5 _ _ _ (c .before .before .before .before .before .before .fits .amount .fits) (up-5 (c .before))
-    (elim (c .if6 .came) [ inl w ↦ inl (w .0 .taken, ap caseOn (w .1)) | inr w ↦ inr (w .0 .left, ap caseOn (w .1)) ])
+    (elim (c .if6 .came) [ inl w ↦ inl (w .0 .taken, ap asCase (w .1)) | inr w ↦ inr (w .0 .left, ap asCase (w .1)) ])
 
-up-7 : (c : tie.Joined7) → UpTo 7 (c .before .before .before .before .before .before .before .args .amount) (caseOn (c .if7 .row))
+up-7 : (c : tie.Joined7) → UpTo 7 (c .before .before .before .before .before .before .before .args .amount) (asCase (c .if7 .case))
 up-7 c =
     up-to-next 6 _ _ _ (c .before .before .before .before .before .before .before .fits .amount .fits) (up-6 (c .before))
-    (elim (c .if7 .came) [ inl w ↦ inl (w .0 .taken, ap caseOn (w .1)) | inr w ↦ inr (w .0 .left, ap caseOn (w .1)) ])
+    (elim (c .if7 .came) [ inl w ↦ inl (w .0 .taken, ap asCase (w .1)) | inr w ↦ inr (w .0 .left, ap asCase (w .1)) ])
 
-up-8 : (c : tie.Joined8) → UpTo 8 (c .before .before .before .before .before .before .before .before .args .amount) (caseOn (c .if8 .row))
+up-8 : (c : tie.Joined8) → UpTo 8 (c .before .before .before .before .before .before .before .before .args .amount) (asCase (c .if8 .case))
 up-8 c =
     up-to-next 7 _ _ _ (c .before .before .before .before .before .before .before .before .fits .amount .fits) (up-7 (c .before))
-    (elim (c .if8 .came) [ inl w ↦ inl (w .0 .taken, ap caseOn (w .1)) | inr w ↦ inr (w .0 .left, ap caseOn (w .1)) ])
+    (elim (c .if8 .came) [ inl w ↦ inl (w .0 .taken, ap asCase (w .1)) | inr w ↦ inr (w .0 .left, ap asCase (w .1)) ])
 
-up-9 : (c : tie.Joined9) → UpTo 9 (c .before .before .before .before .before .before .before .before .before .args .amount) (caseOn (c .if9 .row))
+up-9 : (c : tie.Joined9) → UpTo 9 (c .before .before .before .before .before .before .before .before .before .args .amount) (asCase (c .if9 .case))
 up-9 c =
     up-to-next 8 _ _ _ (c .before .before .before .before .before .before .before .before .before .fits .amount .fits) (up-8 (c .before))
-    (elim (c .if9 .came) [ inl w ↦ inl (w .0 .taken, ap caseOn (w .1)) | inr w ↦ inr (w .0 .left, ap caseOn (w .1)) ])
+    (elim (c .if9 .came) [ inl w ↦ inl (w .0 .taken, ap asCase (w .1)) | inr w ↦ inr (w .0 .left, ap asCase (w .1)) ])
 
 returns : tie.Need-returns
 returns c =
