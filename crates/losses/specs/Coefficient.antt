@@ -4,7 +4,7 @@ use mathlib.Core.Bool.{Bool, true, false}
 use mathlib.Core.List.{List, [], _∷_}
 use lib.Dec.{eqb}
 use lib.Ieee.{Float}
-use Rattle.losses.specs.Binary64.{decimal}
+use Rattle.forms.specs.Binary64.{decimal}
 use Rattle.amounts.specs.Decline.{Answer, taken, declined, noRow}
 use Rattle.losses.specs.declared.coefficient.CoefficientRow.{CoefficientRow}
 use Rattle.losses.specs.declared.coefficient.Entry.{Entry}

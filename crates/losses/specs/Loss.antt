@@ -4,14 +4,14 @@ use mathlib.Core.Bool.{cond}
 use mathlib.Core.List.{[], _∷_}
 use lib.Dec.{leb}
 use lib.Ieee.{Float, le}
-use Rattle.losses.specs.Binary64.{decimal, whole, _⊗_, _⊘_, _⊕_}
+use Rattle.forms.specs.Binary64.{decimal, whole, _⊗_, _⊘_, _⊕_}
 use Rattle.losses.specs.Coefficient.{rowOf}
 use Rattle.amounts.specs.Decline.{Answer, taken, declined, check, checked, onTaken, layout, excess}
-use Rattle.losses.specs.Form.{formOf}
+use Rattle.forms.specs.Form.{formOf}
 use Rattle.losses.specs.Whole.{wholePart}
 use Rattle.losses.specs.declared.coefficient.CoefficientRow.{CoefficientRow}
-use Rattle.losses.specs.declared.form.LossForm.{LossForm}
-use Rattle.losses.specs.declared.form.LossForm.the-variants.{FloatingRoof, FixedRoof, Station}
+use Rattle.forms.specs.declared.form.LossForm.{LossForm}
+use Rattle.forms.specs.declared.form.LossForm.the-variants.{FloatingRoof, FixedRoof, Station}
 use Rattle.losses.specs.declared.loss.Loss as loss
 use Rattle.losses.specs.declared.loss.Loss.the-variants.{Micrograms, Declined}
 

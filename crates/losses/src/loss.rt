@@ -1,20 +1,20 @@
 // Vapour losses in kg and in micrograms.
 ghost use mathlib.Core.Path.{_≡_};
 ghost use lib.Ieee.{Float};
-ghost use Rattle.losses.specs.Binary64.{valueOf};
+ghost use Rattle.forms.specs.Binary64.{valueOf};
 ghost use Rattle.losses.specs.Coefficient as coefficients;
-ghost use Rattle.losses.specs.Form.{inForm};
+ghost use Rattle.forms.specs.Form.{inForm};
 ghost use Rattle.losses.specs.Loss.{floatingRoofKg, fixedRoofKg, stationKg, kgOf, limitedOf, lossOf, lossOver, vapourOf, answer};
 ghost use Rattle.losses.specs.Steps.{kgAnswer};
 use crate::coefficient;
 use crate::coefficient::CoefficientRow;
 use crate::coefficient::RowRead;
-use crate::form;
-use crate::form::FormRead;
-use crate::form::LossForm;
 use crate::whole;
 use amounts::decline;
 use amounts::decline::Decline;
+use forms::form;
+use forms::form::FormRead;
+use forms::form::LossForm;
 
 enum Kg {
     Value(f64),

@@ -4,10 +4,10 @@ use mathlib.Core.Bool.{Bool}
 use mathlib.Core.List.{List, [], _∷_}
 use lib.Dec.{eqb}
 use lib.ListN.{length, getD}
-use Rattle.losses.specs.Binary64.{valueOf}
+use Rattle.forms.specs.Binary64.{valueOf}
 use Rattle.losses.specs.Coefficient.{rowOf}
 use Rattle.amounts.specs.Decline.{Answer, taken, declined, check, checked, onTaken, valueOr, layout, range}
-use Rattle.losses.specs.Form.{unusedRanges, inRanges, inForm}
+use Rattle.forms.specs.Form.{unusedRanges, inRanges, inForm}
 use Rattle.losses.specs.Loss.{lossOver}
 use Rattle.layout.specs.Posts.{postSize}
 use Rattle.layout.specs.declared.outline.Outline.{Outline}

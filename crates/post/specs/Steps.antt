@@ -3,7 +3,7 @@ use Prim.Native.Nat.{ℕ, _*_, _≤_, _<_}
 use mathlib.Core.List.{List, [], _∷_}
 use lib.ListN.{getD}
 use Rattle.amounts.specs.Decline.{Answer, taken, declined, check, checked, range}
-use Rattle.losses.specs.Binary64.{valueOf}
+use Rattle.forms.specs.Binary64.{valueOf}
 use Rattle.losses.specs.Coefficient.{rowOf}
 use Rattle.losses.specs.Loss.{lossOver}
 use Rattle.layout.specs.declared.outline.Outline.{Outline}

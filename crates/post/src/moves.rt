@@ -18,12 +18,12 @@ use crate::kind::KindRead;
 use crate::kind::Measure;
 use amounts::decline;
 use amounts::decline::Decline;
+use forms::pattern;
 use layout::outline::Outline;
 use layout::posts::POST_SIZE;
 use layout::verdict::Verdict;
 use losses::loss;
 use losses::loss::Loss;
-use losses::pattern;
 
 // Received into a store; issued from a store to a stage's holdings; brought to an account from outside; gone from a holding to an
 // account; the close. Grams of a material, micrograms of a substance.

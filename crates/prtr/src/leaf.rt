@@ -1,6 +1,6 @@
 // The calculations of the first library. Each that can decline returns 0 or document 01's number, and writes only where it returns 0.
 ghost use mathlib.Core.Path.{_≡_};
-ghost use Rattle.losses.specs.Binary64.{valueOf};
+ghost use Rattle.forms.specs.Binary64.{valueOf};
 ghost use Rattle.amounts.specs.Content.{countedOf};
 ghost use Rattle.amounts.specs.Filed.{caseOf, stepOf, filedOf};
 ghost use Rattle.losses.specs.Loss.{vapourOf};

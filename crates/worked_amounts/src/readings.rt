@@ -1,7 +1,7 @@
 // A float read from its bits, in a range from 0 that has no end, and its whole part.
 use crate::line;
-use losses::pattern::FloatRead;
-use losses::pattern::Range;
+use forms::pattern::FloatRead;
+use forms::pattern::Range;
 
 const PATTERNS: [u64; 21] = [
     // Zero of either sign, and the least float.
@@ -36,7 +36,7 @@ const PATTERNS: [u64; 21] = [
 
 fn show(bits: u64) {
     line::pattern(bits);
-    match losses::pattern::read_float(
+    match forms::pattern::read_float(
         bits,
         Range {
             low: 0.0,

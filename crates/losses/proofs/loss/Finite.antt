@@ -16,18 +16,18 @@ use lib.Ieee.Fits.{up-pos, down-pos, and-l, and-r}
 use lib.Ieee.Exact.{HasValue, round-exact}
 use lib.Ieee.Back.{round-whole}
 use lib.Ieee.Order.{round-mono, le-of-values}
-use Rattle.losses.specs.Binary64.{decimal, whole, _⊗_, _⊘_, _⊕_, finite}
-use Rattle.losses.specs.Pattern.{_to_, inRange}
-use Rattle.losses.specs.Form.{floatingRanges, fixedRanges, stationRanges, inRanges, ranged, formOf}
+use Rattle.forms.specs.Binary64.{decimal, whole, _⊗_, _⊘_, _⊕_, finite}
+use Rattle.forms.specs.Pattern.{_to_, inRange}
+use Rattle.forms.specs.Form.{floatingRanges, fixedRanges, stationRanges, inRanges, ranged, formOf}
 use Rattle.losses.specs.Coefficient.{rows, find, rowIf, rowOf}
 use Rattle.amounts.specs.Decline.{Answer, taken, declined, onTaken, layout, range}
 use Rattle.losses.specs.Loss.{floatingRoofKg, fixedRoofKg, stationKg, kgOf}
 use Rattle.losses.specs.declared.coefficient.CoefficientRow.{CoefficientRow}
 use Rattle.losses.specs.declared.coefficient.Entry.{Entry}
-use Rattle.losses.specs.declared.form.Ranges.{Ranges}
-use Rattle.losses.specs.declared.form.LossForm.{LossForm}
-use Rattle.losses.specs.declared.form.LossForm.the-variants.{FloatingRoof, FixedRoof, Station}
+use Rattle.forms.specs.declared.form.LossForm.{LossForm}
+use Rattle.forms.specs.declared.form.LossForm.the-variants.{FloatingRoof, FixedRoof, Station}
 use Rattle.amounts.proofs.decline.Laws.{one-taken}
+use Rattle.forms.proofs.form.Laws.{both, each-in-range}
 
 -- ---- tests and facts
 -- a test that is `true`, and a test that passes
@@ -43,11 +43,6 @@ same-test true true f g = refl
 same-test true false f g = absurd (f tt)
 same-test false true f g = absurd (g tt)
 same-test false false f g = refl
-
--- the parts of a joint test
-both : (a b : Bool) → (a && b) ≡ true → (a ≡ true) × (b ≡ true)
-both true b e = (refl, e)
-both false b e = absurd (false≢true e)
 
 -- what `le` asks of two values that are not negative is the order of the numbers
 ordered : (a b : ℕ) → (ltb a b || (eqb a b && true)) ≡ leb a b
@@ -259,14 +254,6 @@ in-range-one hi {x} e =
 billion : {x : Float} → inRange (0 to 10 ^ 9) x ≡ true → Within 30 x
 billion = in-range 0 (10 ^ 9) 30 tt
 
--- each of the four inputs is in its range
-inputs : (r : Ranges) (w u p q : Float) → inRanges r w u p q ≡ true → (inRange (r .w) w ≡ true) × (inRange (r .u) u ≡ true) × (inRange (r .p) p ≡ true) × (inRange (r .q) q ≡ true)
-inputs r w u p q h =
-    let f = both (inRange (r .w) w) (inRange (r .u) u && (inRange (r .p) p && inRange (r .q) q)) h in
-    let g = both (inRange (r .u) u) (inRange (r .p) p && inRange (r .q) q) (f .1) in
-    let i = both (inRange (r .p) p) (inRange (r .q) q) (g .1) in
-    (f .0, g .0, i .0, i .1)
-
 -- "k" and "M" of the table
 abbrev pub RowWithin : CoefficientRow → Type 0
 RowWithin row = (inRange (0 to 1) (row .k) ≡ true) × (inRange (1 to 1000) (row .m) ≡ true)
@@ -301,7 +288,7 @@ rows-within number row h = find-within rows refl number row h
 floating-within : (row : CoefficientRow) (w u p q : Float) → RowWithin row → inRanges floatingRanges w u p q ≡ true → Within 49 (floatingRoofKg row w u p)
 unfolding floatingRoofKg le round
 floating-within row w u p q c h =
-    let r = inputs floatingRanges w u p q h in
+    let r = each-in-range floatingRanges w u p q h in
     let spread = div-within (in-range 0 4 2 tt {x = whole 4} refl) (in-range-one 1000 (r .0)) (lit≤ tt) in
     let drawn = mul-within (mul-within (in-range 0 1 0 tt (c .0)) spread (lit≤ tt)) (in-range 1 1000 10 tt (c .1)) (lit≤ tt) in
     let percent = div-within (in-range 0 100 7 tt (r .1)) (in-range-one 100 {x = whole 100} refl) (lit≤ tt) in
@@ -310,7 +297,7 @@ floating-within row w u p q c h =
 fixed-within : (row : CoefficientRow) (w u p q : Float) → RowWithin row → inRanges fixedRanges w u p q ≡ true → Within 70 (fixedRoofKg row w u p q)
 unfolding fixedRoofKg le round
 fixed-within row w u p q c h =
-    let r = inputs fixedRanges w u p q h in
+    let r = each-in-range fixedRanges w u p q h in
     let density = mul-within (in-range 0 1 0 tt {x = decimal 41 1000} refl) (in-range 1 1000 10 tt (c .1)) (lit≤ tt) in
     let parts = div-within (billion (r .1)) (in-range-one (10 ^ 9) (r .2)) (lit≤ tt) in
     mul-within (mul-within (mul-within density (billion (r .0)) (lit≤ tt)) parts (lit≤ tt)) (in-range 0 1 0 tt (r .3)) (lit≤ tt)
@@ -318,7 +305,7 @@ fixed-within row w u p q c h =
 station-within : (w u p q : Float) → inRanges stationRanges w u p q ≡ true → Within 61 (stationKg w u p q)
 unfolding stationKg
 station-within w u p q h =
-    let r = inputs stationRanges w u p q h in
+    let r = each-in-range stationRanges w u p q h in
     add-within (mul-within (billion (r .0)) (billion (r .1)) (lit≤ tt)) (mul-within (billion (r .2)) (billion (r .3)) (lit≤ tt)) (lit≤ tt)
 
 -- what is taken with a row is taken with one that was found

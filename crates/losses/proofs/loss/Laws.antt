@@ -10,17 +10,17 @@ use lib.Ieee.{Float, Format, nan, inf, fin, binary64, up, down, low, emax, prec,
 use lib.Ieee.Fits.{round-is, down-pos}
 use lib.Ieee.Order.{round-mono}
 use borrow.Author.Tests.{le-leb}
-use Rattle.losses.specs.Binary64.{whole}
+use Rattle.forms.specs.Binary64.{whole}
 use Rattle.amounts.specs.Decline.{Answer, taken, declined, check, checked, onTaken, layout, range, excess}
 use Rattle.losses.specs.Coefficient.{rowOf}
-use Rattle.losses.specs.Form.{stationRanges, inRanges, formOf, inForm}
+use Rattle.forms.specs.Form.{stationRanges, inRanges, formOf, inForm}
 use Rattle.losses.specs.Loss.{microgramsOf, kgOf, limitedOf, lossOf, lossOver, vapourOf}
 use Rattle.losses.specs.Whole.{wholePart}
 use Rattle.losses.specs.declared.coefficient.CoefficientRow.{CoefficientRow}
-use Rattle.losses.specs.declared.form.LossForm.{LossForm}
-use Rattle.losses.specs.declared.form.LossForm.the-variants.{Station}
+use Rattle.forms.specs.declared.form.LossForm.{LossForm}
+use Rattle.forms.specs.declared.form.LossForm.the-variants.{Station}
 use Rattle.amounts.proofs.decline.Laws.{one-taken, was-taken}
-use Rattle.losses.proofs.form.Laws.{not-in-form}
+use Rattle.forms.proofs.form.Laws.{not-in-form}
 use Rattle.losses.proofs.loss.Finite.{at-most}
 
 -- ---- what is negative has no whole part

@@ -13,9 +13,9 @@ use lib.Ieee.Exact.{HasValue, odd-sign}
 use lib.Ieee.Bits.{ofBits-toBits}
 use lib.Ieee.Fits.{down-pos}
 use lib.Ieee.Order.{le-of-values}
-use Rattle.losses.specs.Binary64.{whole}
+use Rattle.forms.specs.Binary64.{whole}
 use Rattle.losses.specs.Whole.{wholePart}
-use Rattle.losses.proofs.pattern.Laws.{below-zero}
+use Rattle.forms.proofs.pattern.Laws.{below-zero}
 use Rattle.std.proofs.num.Truncating.{one, two-to, up-by, cut-down, cut-up, below-one}
 
 -- the code's 0 and 2 ^ 64, by their bit patterns

@@ -7,7 +7,7 @@ use native.Mathlib.Omega.{arith}
 use borrow.Author.Tests.{eq-eqb, ne-eqb}
 use lib.Dec.{eqb}
 use lib.ListN.{length, getD}
-use Rattle.losses.specs.Binary64.{valueOf}
+use Rattle.forms.specs.Binary64.{valueOf}
 use Rattle.losses.specs.Coefficient.{rowOf}
 use Rattle.amounts.specs.Decline.{Answer, taken, declined, check, checked, onTaken, layout, range}
 use Rattle.amounts.proofs.decline.Laws.{was-taken}

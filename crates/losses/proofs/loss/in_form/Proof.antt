@@ -1,5 +1,5 @@
 use borrow.Author.Needs.{needs}
-use Rattle.losses.specs.Form.{inForm}
+use Rattle.forms.specs.Form.{inForm}
 use Rattle.losses.proofs.loss.in_form.Statement.{statement}
 use Rattle.losses.proofs.loss.in_form.Tie as tie
 

@@ -1,8 +1,8 @@
 // Floats from bit patterns that nobody vouches for.
 ghost use mathlib.Core.Path.{_≡_};
-ghost use Rattle.losses.specs.Binary64.{valueOf};
-ghost use Rattle.losses.specs.Pattern.{_to_, inRange, readingOf, answer};
-ghost use Rattle.losses.specs.Steps.{Upward};
+ghost use Rattle.forms.specs.Binary64.{valueOf};
+ghost use Rattle.forms.specs.Pattern.{_to_, inRange, readingOf, answer};
+ghost use Rattle.forms.specs.Steps.{Upward};
 use amounts::decline;
 use amounts::decline::Decline;
 

@@ -1,8 +1,8 @@
-use Rattle.losses.specs.Pattern.{readingOf}
-use Rattle.losses.proofs.pattern.Laws.{finite-below, no-nan}
-use Rattle.losses.proofs.pattern.Order.{end-is-number, too-large, has-size, no-larger}
-use Rattle.losses.proofs.pattern.read_upward.Statement.{statement}
-use Rattle.losses.proofs.pattern.read_upward.Tie as tie
+use Rattle.forms.specs.Pattern.{readingOf}
+use Rattle.forms.proofs.pattern.Laws.{finite-below, no-nan}
+use Rattle.forms.proofs.pattern.Order.{end-is-number, too-large, has-size, no-larger}
+use Rattle.forms.proofs.pattern.read_upward.Statement.{statement}
+use Rattle.forms.proofs.pattern.read_upward.Tie as tie
 
 float-to-bits-most : tie.Need-float-to-bits-most
 float-to-bits-most c = end-is-number (c .before .args .range) (c .before .pre)

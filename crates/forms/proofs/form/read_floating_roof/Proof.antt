@@ -1,12 +1,12 @@
 use lib.Ieee.{ofBits, round}
 use borrow.Author.Needs.{needs}
-use Rattle.losses.specs.Form.{floatingRanges, formOf}
-use Rattle.losses.specs.declared.form.Inputs.{Inputs}
-use Rattle.losses.specs.declared.form.LossForm.{LossForm}
-use Rattle.losses.specs.declared.form.LossForm.the-variants.{FloatingRoof}
-use Rattle.losses.proofs.form.Laws.{floating-upward, filled}
-use Rattle.losses.proofs.form.read_floating_roof.Statement.{statement}
-use Rattle.losses.proofs.form.read_floating_roof.Tie as tie
+use Rattle.forms.specs.Form.{floatingRanges, formOf}
+use Rattle.forms.specs.declared.form.Inputs.{Inputs}
+use Rattle.forms.specs.declared.form.LossForm.{LossForm}
+use Rattle.forms.specs.declared.form.LossForm.the-variants.{FloatingRoof}
+use Rattle.forms.proofs.form.Laws.{floating-upward, filled}
+use Rattle.forms.proofs.form.read_floating_roof.Statement.{statement}
+use Rattle.forms.proofs.form.read_floating_roof.Tie as tie
 
 abbrev of-inputs : Inputs → LossForm
 of-inputs x = FloatingRoof (x .w) (x .u) (x .p)

@@ -5,11 +5,13 @@ use mathlib.Core.List.{[], _∷_}
 use lib.Dec.{eqb}
 use lib.Ieee.{Float}
 use Rattle.amounts.specs.Decline as decline
-use Rattle.amounts.specs.Decline.{Answer, declined, check, checked, isTaken, layout}
-use Rattle.losses.specs.Pattern.{_to_, inRange}
-use Rattle.losses.specs.declared.form.Ranges.{Ranges}
-use Rattle.losses.specs.declared.form.LossForm.{LossForm}
-use Rattle.losses.specs.declared.form.LossForm.the-variants.{FloatingRoof, FixedRoof, Station}
+use Rattle.amounts.specs.Decline.{Answer, taken, declined, check, checked, isTaken, layout}
+use Rattle.forms.specs.Pattern.{_to_, inRange}
+use Rattle.forms.specs.declared.form.Ranges.{Ranges}
+use Rattle.forms.specs.declared.form.LossForm.{LossForm}
+use Rattle.forms.specs.declared.form.LossForm.the-variants.{FloatingRoof, FixedRoof, Station}
+use Rattle.forms.specs.declared.form.FormRead.{FormRead}
+use Rattle.forms.specs.declared.form.FormRead.the-variants as form
 
 -- "w diameter in m, 1 to 1,000; u content in weight percent, 0 to 100; p kL drawn, 0 to 10^9; q is zero"
 abbrev pub floatingRanges : Ranges
@@ -47,3 +49,8 @@ formOf n w u p q =
 unfoldable pub inForm : ℕ → Float → Float → Float → Float → Bool
 unfolding formOf
 inForm n w u p q = isTaken (formOf n w u p q)
+
+-- what each case of the code's answer stands for
+abbrev pub formAnswer : FormRead → Answer LossForm
+formAnswer (form.Form f) = taken f
+formAnswer (form.Declined d) = declined (d .number)

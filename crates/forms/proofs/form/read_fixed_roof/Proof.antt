@@ -1,12 +1,12 @@
 use lib.Ieee.{ofBits, round}
 use borrow.Author.Needs.{needs}
-use Rattle.losses.specs.Form.{fixedRanges, formOf}
-use Rattle.losses.specs.declared.form.Inputs.{Inputs}
-use Rattle.losses.specs.declared.form.LossForm.{LossForm}
-use Rattle.losses.specs.declared.form.LossForm.the-variants.{FixedRoof}
-use Rattle.losses.proofs.form.Laws.{fixed-upward, filled}
-use Rattle.losses.proofs.form.read_fixed_roof.Statement.{statement}
-use Rattle.losses.proofs.form.read_fixed_roof.Tie as tie
+use Rattle.forms.specs.Form.{fixedRanges, formOf}
+use Rattle.forms.specs.declared.form.Inputs.{Inputs}
+use Rattle.forms.specs.declared.form.LossForm.{LossForm}
+use Rattle.forms.specs.declared.form.LossForm.the-variants.{FixedRoof}
+use Rattle.forms.proofs.form.Laws.{fixed-upward, filled}
+use Rattle.forms.proofs.form.read_fixed_roof.Statement.{statement}
+use Rattle.forms.proofs.form.read_fixed_roof.Tie as tie
 
 abbrev of-inputs : Inputs → LossForm
 of-inputs x = FixedRoof (x .w) (x .u) (x .p) (x .q)

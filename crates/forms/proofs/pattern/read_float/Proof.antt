@@ -1,7 +1,7 @@
-use Rattle.losses.specs.Pattern.{readingOf}
-use Rattle.losses.proofs.pattern.Laws.{finite-below, not-finite, no-nan}
-use Rattle.losses.proofs.pattern.read_float.Statement.{statement}
-use Rattle.losses.proofs.pattern.read_float.Tie as tie
+use Rattle.forms.specs.Pattern.{readingOf}
+use Rattle.forms.proofs.pattern.Laws.{finite-below, not-finite, no-nan}
+use Rattle.forms.proofs.pattern.read_float.Statement.{statement}
+use Rattle.forms.proofs.pattern.read_float.Tie as tie
 
 returns : tie.Need-returns
 unfolding readingOf

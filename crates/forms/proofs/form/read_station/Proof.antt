@@ -1,12 +1,12 @@
 use lib.Ieee.{ofBits, round}
 use borrow.Author.Needs.{needs}
-use Rattle.losses.specs.Form.{stationRanges, formOf}
-use Rattle.losses.specs.declared.form.Inputs.{Inputs}
-use Rattle.losses.specs.declared.form.LossForm.{LossForm}
-use Rattle.losses.specs.declared.form.LossForm.the-variants.{Station}
-use Rattle.losses.proofs.form.Laws.{station-upward, filled}
-use Rattle.losses.proofs.form.read_station.Statement.{statement}
-use Rattle.losses.proofs.form.read_station.Tie as tie
+use Rattle.forms.specs.Form.{stationRanges, formOf}
+use Rattle.forms.specs.declared.form.Inputs.{Inputs}
+use Rattle.forms.specs.declared.form.LossForm.{LossForm}
+use Rattle.forms.specs.declared.form.LossForm.the-variants.{Station}
+use Rattle.forms.proofs.form.Laws.{station-upward, filled}
+use Rattle.forms.proofs.form.read_station.Statement.{statement}
+use Rattle.forms.proofs.form.read_station.Tie as tie
 
 abbrev of-inputs : Inputs → LossForm
 of-inputs x = Station (x .w) (x .u) (x .p) (x .q)

@@ -1,8 +1,8 @@
 use borrow.Author.Tests.{ne-eqb}
 use borrow.Author.Needs.{needs}
-use Rattle.losses.specs.Form.{formOf}
-use Rattle.losses.proofs.form.read_form.Statement.{statement}
-use Rattle.losses.proofs.form.read_form.Tie as tie
+use Rattle.forms.specs.Form.{formOf}
+use Rattle.forms.proofs.form.read_form.Statement.{statement}
+use Rattle.forms.proofs.form.read_form.Tie as tie
 
 read-floating-roof-requires : tie.Need-read-floating-roof-requires
 read-floating-roof-requires c κs = search needs

@@ -15,11 +15,11 @@ use lib.Ieee.Fits.{down-pos}
 use lib.Ieee.Order.{transfer, le-of-values}
 use lib.Ieee.Positive.{first-pos}
 use borrow.Author.Tests.{eq-eqb, ne-eqb, le-ltb, lt-leb, eqb-true, leb-true, leb-false, ltb-true, ltb-false}
-use Rattle.losses.specs.Binary64.{finite, valueOf}
-use Rattle.losses.specs.Pattern.{inRange}
-use Rattle.losses.specs.Steps.{Upward}
-use Rattle.losses.specs.declared.pattern.Range.{Range}
-use Rattle.losses.proofs.pattern.Laws.{not-finite, no-nan}
+use Rattle.forms.specs.Binary64.{finite, valueOf}
+use Rattle.forms.specs.Pattern.{inRange}
+use Rattle.forms.specs.Steps.{Upward}
+use Rattle.forms.specs.declared.pattern.Range.{Range}
+use Rattle.forms.proofs.pattern.Laws.{not-finite, no-nan}
 
 -- ---- the size of a value in the format's smallest values, by the exponent's field and the digits'
 

@@ -13,12 +13,12 @@ use lib.Ieee.Fits.{down-pos}
 use lib.Ieee.Positive.{first-pos}
 use lib.Ieee.Bits.{nanBits-above}
 use borrow.Author.Tests.{eq-eqb, ne-eqb, le-ltb}
-use Rattle.losses.specs.Binary64.{whole, finite, valueOf}
-use Rattle.losses.specs.Pattern.{_to_, inRange, readingOf, answer}
+use Rattle.forms.specs.Binary64.{whole, finite, valueOf}
+use Rattle.forms.specs.Pattern.{_to_, inRange, readingOf, answer}
 use Rattle.amounts.specs.declared.decline.Decline.{Decline}
-use Rattle.losses.specs.declared.pattern.Range.{Range}
-use Rattle.losses.specs.declared.pattern.FloatRead.{FloatRead}
-use Rattle.losses.specs.declared.pattern.FloatRead.the-variants.{Value, Declined}
+use Rattle.forms.specs.declared.pattern.Range.{Range}
+use Rattle.forms.specs.declared.pattern.FloatRead.{FloatRead}
+use Rattle.forms.specs.declared.pattern.FloatRead.the-variants.{Value, Declined}
 use Rattle.amounts.proofs.decline.Laws.{one-taken, one-declined}
 
 digits-finite : (d : ℕ) (s : Bool) (q k l : ℕ) → finite (odd d s q k l) ≡ true

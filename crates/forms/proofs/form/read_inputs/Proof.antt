@@ -3,13 +3,13 @@ use mathlib.Core.Path.{_≡_}
 use Prim.Native.Nat.{ℕ}
 use lib.Ieee.{Float}
 use borrow.Author.Needs.{needs}
-use Rattle.losses.specs.Pattern.{inRange}
-use Rattle.losses.specs.Steps.{inputsOf}
-use Rattle.losses.specs.declared.pattern.Range.{Range}
-use Rattle.losses.specs.Binary64.{valueOf}
-use Rattle.losses.proofs.pattern.Laws.{read, refused}
-use Rattle.losses.proofs.form.read_inputs.Statement.{statement}
-use Rattle.losses.proofs.form.read_inputs.Tie as tie
+use Rattle.forms.specs.Pattern.{inRange}
+use Rattle.forms.specs.Steps.{inputsOf}
+use Rattle.forms.specs.declared.pattern.Range.{Range}
+use Rattle.forms.specs.Binary64.{valueOf}
+use Rattle.forms.proofs.pattern.Laws.{read, refused}
+use Rattle.forms.proofs.form.read_inputs.Statement.{statement}
+use Rattle.forms.proofs.form.read_inputs.Tie as tie
 
 -- the start, after each float is read
 abbrev start1 : tie.After-known-told → tie.Start

@@ -1,6 +1,6 @@
 -- The ranges of the forms, and what reading four floats tells of a form that they are the inputs of. Assumes nothing.
 use mathlib.Core.Path.{_≡_, refl, sym, ap, _∙_}
-use mathlib.Core.Bool.{Bool, true, false, cond}
+use mathlib.Core.Bool.{Bool, true, false, _&&_, cond, false≢true}
 use mathlib.Core.List.{[], _∷_}
 use Prim.Native.Nat.{ℕ, _≤_, _<_}
 use native.Mathlib.Omega.{arith}
@@ -8,16 +8,17 @@ use borrow.Author.Tests.{eqb-false}
 use lib.Dec.{T, eqb, ltb, lit<}
 use lib.IntN.{pos}
 use lib.Ieee.{Float, fin, ofBits, round}
-use Rattle.losses.specs.Binary64.{valueOf}
+use Rattle.forms.specs.Binary64.{valueOf}
+use Rattle.forms.specs.Pattern.{inRange}
 use Rattle.amounts.specs.Decline.{Answer, taken, declined, isTaken, check, checked, onTaken, layout, range}
-use Rattle.losses.specs.Form.{floatingRanges, fixedRanges, stationRanges, inRanges, ranged, formOf, inForm}
-use Rattle.losses.specs.Steps.{Upward, AllUpward, inputsOf, inputsAnswer}
-use Rattle.losses.specs.declared.form.Inputs.{Inputs}
-use Rattle.losses.specs.declared.form.InputsRead.{InputsRead}
-use Rattle.losses.specs.declared.form.LossForm.{LossForm}
-use Rattle.losses.specs.declared.form.LossForm.the-variants.{FloatingRoof, FixedRoof, Station}
-use Rattle.losses.specs.declared.form.Ranges.{Ranges}
-use Rattle.losses.specs.declared.pattern.Range.{Range}
+use Rattle.forms.specs.Form.{floatingRanges, fixedRanges, stationRanges, inRanges, ranged, formOf, inForm}
+use Rattle.forms.specs.Steps.{Upward, AllUpward, inputsOf, inputsAnswer}
+use Rattle.forms.specs.declared.form.Inputs.{Inputs}
+use Rattle.forms.specs.declared.form.InputsRead.{InputsRead}
+use Rattle.forms.specs.declared.form.LossForm.{LossForm}
+use Rattle.forms.specs.declared.form.LossForm.the-variants.{FloatingRoof, FixedRoof, Station}
+use Rattle.forms.specs.declared.form.Ranges.{Ranges}
+use Rattle.forms.specs.declared.pattern.Range.{Range}
 
 -- ---- each range starts at 0 or 1 and ends at 0, 1, 100, 1,000 or 10^9, by its pattern
 
@@ -63,6 +64,22 @@ module _ (w u p q : Float) (form : Inputs → LossForm) where
   pub filled : (ranges : Ranges) (r t : InputsRead) → inputsAnswer r ≡ inputsOf ranges w u p q → r ≡ t → next (inputsAnswer t) ≡ ranged ranges w u p q (form inputs)
   unfolding inputsOf
   filled ranges r t e same = ap (λ (k : InputsRead). next (inputsAnswer k)) (sym same) ∙ ap next e ∙ by-test (inRanges ranges w u p q)
+
+-- ---- what ranges say of each float
+
+-- the parts of a joint test
+pub both : (a b : Bool) → (a && b) ≡ true → (a ≡ true) × (b ≡ true)
+both true b e = (refl, e)
+both false b e = absurd (false≢true e)
+
+-- each of the four inputs is in its range
+pub each-in-range : (r : Ranges) (w u p q : Float) → inRanges r w u p q ≡ true
+    → (inRange (r .w) w ≡ true) × (inRange (r .u) u ≡ true) × (inRange (r .p) p ≡ true) × (inRange (r .q) q ≡ true)
+each-in-range r w u p q h =
+    let f = both (inRange (r .w) w) (inRange (r .u) u && (inRange (r .p) p && inRange (r .q) q)) h in
+    let g = both (inRange (r .u) u) (inRange (r .p) p && inRange (r .q) q) (f .1) in
+    let i = both (inRange (r .p) p) (inRange (r .q) q) (g .1) in
+    (f .0, g .0, i .0, i .1)
 
 -- ---- a form whose floats aren't in their ranges
 

@@ -1,15 +1,15 @@
 // The three forms of a vapour loss, and the ranges of their inputs.
 ghost use mathlib.Core.Path.{_≡_};
-ghost use Rattle.losses.specs.Binary64.{valueOf};
-ghost use Rattle.losses.specs.Form.{formOf};
-ghost use Rattle.losses.specs.Steps.{AllUpward, inputsOf, inputsAnswer, formAnswer};
+ghost use Rattle.forms.specs.Binary64.{valueOf};
+ghost use Rattle.forms.specs.Form.{formOf, formAnswer};
+ghost use Rattle.forms.specs.Steps.{AllUpward, inputsOf, inputsAnswer};
 use crate::pattern;
 use crate::pattern::FloatRead;
 use crate::pattern::Range;
 use amounts::decline;
 use amounts::decline::Decline;
 
-pub(crate) enum LossForm {
+pub enum LossForm {
     FloatingRoof {
         diameter: f64,
         content: f64,
@@ -48,7 +48,7 @@ enum InputsRead {
     Declined(Decline),
 }
 
-pub(crate) enum FormRead {
+pub enum FormRead {
     Form(LossForm),
     Declined(Decline),
 }
@@ -177,7 +177,7 @@ fn read_station(w: u64, u: u64, p: u64, q: u64) -> FormRead
 }
 
 // The form of a number with its inputs, from four bit patterns.
-pub(crate) fn read_form(form: u8, w: u64, u: u64, p: u64, q: u64) -> FormRead
+pub fn read_form(form: u8, w: u64, u: u64, p: u64, q: u64) -> FormRead
     ensures { λ r. ⌜ formAnswer r ≡ formOf form (valueOf w) (valueOf u) (valueOf p) (valueOf q) ⌝ }
 {
     if form == 1 {

@@ -3,12 +3,12 @@ use Prim.Native.Nat.{ℕ}
 use mathlib.Core.Bool.{Bool, _&&_}
 use mathlib.Core.List.{[], _∷_}
 use lib.Ieee.{Float, le}
-use Rattle.losses.specs.Binary64.{whole, finite}
+use Rattle.forms.specs.Binary64.{whole, finite}
 use Rattle.amounts.specs.Decline as decline
 use Rattle.amounts.specs.Decline.{Answer, taken, declined, check, checked}
-use Rattle.losses.specs.declared.pattern.Range.{Range}
-use Rattle.losses.specs.declared.pattern.FloatRead.{FloatRead}
-use Rattle.losses.specs.declared.pattern.FloatRead.the-variants.{Value, Declined}
+use Rattle.forms.specs.declared.pattern.Range.{Range}
+use Rattle.forms.specs.declared.pattern.FloatRead.{FloatRead}
+use Rattle.forms.specs.declared.pattern.FloatRead.the-variants.{Value, Declined}
 
 infix 20 _to_
 abbrev pub _to_ : ℕ → ℕ → Range

@@ -1,0 +1,4 @@
+pub mod Binary64
+pub mod Pattern
+pub mod Form
+pub mod Steps
