@@ -5,7 +5,7 @@ use mathlib.Core.List.{List}
 use lib.Dec.{eqb, leb}
 use lib.ListN.{getD, set}
 use Rattle.plant.specs.declared.setup.Setup.{Setup}
-use Rattle.post.specs.Account.{held}
+use Rattle.kinds.specs.Account.{held}
 use Rattle.post.specs.declared.moves.Move.{Move}
 use Rattle.post.specs.declared.moves.Move.the-variants.{Received, Issued, Brought, Gone, Close}
 use Rattle.book.specs.Ledger.{cellOf, cell, added, moved, raised, brings, settled}

@@ -4,7 +4,7 @@ use mathlib.Core.Bool.{Bool, true, false}
 use mathlib.Core.List.{List}
 use lib.ListN.{getD, set}
 use Rattle.layout.specs.Each.{sumTo, putTo}
-use Rattle.post.specs.Account.{held, gas, water}
+use Rattle.kinds.specs.Account.{held, gas, water}
 
 -- the place of a sum: by account and pair, and by account, stage and substance
 abbrev pub at : ℕ → ℕ → ℕ

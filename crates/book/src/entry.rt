@@ -3,7 +3,7 @@ ghost use mathlib.Core.Path.{_≡_};
 ghost use Rattle.book.specs.Entry.{closes};
 ghost use Rattle.book.specs.Steps.{Room, Entered};
 use crate::ledger;
-use post::account::HELD;
+use kinds::account::HELD;
 use post::moves::Move;
 
 // Whether what leaves a store or a holding is there. Where it is, the lists are as after the move.

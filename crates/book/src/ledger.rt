@@ -2,11 +2,11 @@
 ghost use mathlib.Core.Path.{_≡_};
 ghost use Prim.Native.Nat.{ℕ, _^_, _+_, _-_, _*_, _≤_, _<_};
 ghost use lib.ListN.{length, getD, set};
-ghost use Rattle.post.specs.Account.{held};
+ghost use Rattle.kinds.specs.Account.{held};
 ghost use Rattle.book.specs.Ledger.{cellOf, total, moved, raised, brings, closesTo, settled};
-use post::account::GAS;
-use post::account::HELD;
-use post::account::WATER;
+use kinds::account::GAS;
+use kinds::account::HELD;
+use kinds::account::WATER;
 
 // An amount goes from one sum to another.
 pub(crate) fn shift(sums: &mut [u64; 576], from: usize, to: usize, amount: u64)

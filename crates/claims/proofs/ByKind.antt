@@ -8,15 +8,15 @@ use borrow.Author.Tests.{eqb-true}
 use lib.Dec.{eqb}
 use Rattle.amounts.specs.Decline.{Answer, taken}
 use Rattle.amounts.proofs.decline.Laws.{was-taken}
-use Rattle.post.specs.Account.{held, offSite}
-use Rattle.post.specs.Fields.{postAt}
-use Rattle.post.specs.Kind.{Row, rows, rowIf, find, kindOf}
+use Rattle.kinds.specs.Account.{held, offSite}
+use Rattle.kinds.specs.Fields.{postAt}
+use Rattle.kinds.specs.Kind.{Row, rows, rowIf, find, kindOf}
+use Rattle.kinds.specs.declared.fields.Post.{Post}
+use Rattle.kinds.specs.declared.kind.Does.{Does}
+use Rattle.kinds.specs.declared.kind.Does.the-variants.{Receives, Issues, Brings, Leaves, Closes}
+use Rattle.kinds.specs.declared.kind.Measure.{Measure}
+use Rattle.kinds.specs.declared.kind.Measure.the-variants.{Quantity, Content}
 use Rattle.post.specs.Moves.{measured, moveOf, said}
-use Rattle.post.specs.declared.fields.Post.{Post}
-use Rattle.post.specs.declared.kind.Does.{Does}
-use Rattle.post.specs.declared.kind.Does.the-variants.{Receives, Issues, Brings, Leaves, Closes}
-use Rattle.post.specs.declared.kind.Measure.{Measure}
-use Rattle.post.specs.declared.kind.Measure.the-variants.{Quantity, Content}
 use Rattle.post.specs.declared.moves.Move.{Move}
 use Rattle.post.specs.declared.moves.Move.the-variants.{Received, Issued, Brought, Gone, Close}
 use Rattle.book.specs.Entry.{enters, handles}

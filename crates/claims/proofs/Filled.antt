@@ -22,7 +22,7 @@ use Rattle.layout.proofs.Checked.{passed}
 use Rattle.layout.proofs.frame.Laws.{is-held}
 use Rattle.layout.proofs.frame.Made.{held-made, count-made, body-made}
 use Rattle.layout.proofs.holds.Laws.{of-posts}
-use Rattle.post.specs.Fields.{postAt}
+use Rattle.kinds.specs.Fields.{postAt}
 use Rattle.post.specs.Moves.{laidOut}
 use Rattle.post.proofs.moves.Laws.{move-laid}
 use Rattle.book.specs.Block.{onYear, blockOn}

@@ -10,7 +10,7 @@ use lib.Dec.{eqb}
 use lib.ListN.{length}
 use Rattle.layout.specs.Each.{sumTo}
 use Rattle.layout.proofs.Each.{sum-none, sum-point}
-use Rattle.post.specs.Account.{held}
+use Rattle.kinds.specs.Account.{held}
 use Rattle.post.specs.Steps.{Fits}
 use Rattle.post.specs.declared.moves.Move.{Move}
 use Rattle.post.specs.declared.moves.Move.the-variants.{Received, Issued, Brought, Gone, Close}

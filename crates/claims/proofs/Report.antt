@@ -15,7 +15,7 @@ use Rattle.layout.specs.Each.{sumTo}
 use Rattle.plant.specs.declared.setup.Rates.{Rates}
 use Rattle.plant.specs.declared.setup.Setup.{Setup}
 use Rattle.layout.proofs.Each.{sum-same}
-use Rattle.post.specs.Account.{held, shipped, offSite, landfill, soil, consumed, gas, water, vapour}
+use Rattle.kinds.specs.Account.{held, shipped, offSite, landfill, soil, consumed, gas, water, vapour}
 use Rattle.post.specs.declared.moves.Move.{Move}
 use Rattle.post.specs.declared.moves.Move.the-variants.{Received, Issued, Brought, Gone, Close}
 use Rattle.post.proofs.moves.Named.{comesTo, Named}

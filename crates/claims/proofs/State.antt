@@ -8,7 +8,7 @@ use lib.Dec.{eqb}
 use lib.ListN.{length, getD}
 use Rattle.layout.specs.Each.{sumTo}
 use Rattle.layout.proofs.Each.{sum-none}
-use Rattle.post.specs.Account.{held}
+use Rattle.kinds.specs.Account.{held}
 use Rattle.post.specs.Steps.{Fits}
 use Rattle.post.specs.declared.moves.Move.{Move}
 use Rattle.post.specs.declared.moves.Move.the-variants.{Received, Issued, Brought, Gone, Close}

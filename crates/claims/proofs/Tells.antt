@@ -21,8 +21,8 @@ use Rattle.plant.specs.Stage.{withStage}
 use Rattle.layout.specs.declared.outline.Outline.{Outline}
 use Rattle.plant.specs.declared.setup.Setup.{Setup}
 use Rattle.layout.proofs.Each.{and-true}
-use Rattle.post.specs.Fields.{postAt}
-use Rattle.post.specs.Kind.{Row, kindOf}
+use Rattle.kinds.specs.Fields.{postAt}
+use Rattle.kinds.specs.Kind.{Row, kindOf}
 use Rattle.post.specs.Moves.{moveIn, said}
 use Rattle.post.specs.declared.moves.Move.{Move}
 use Rattle.post.proofs.moves.Laws.{move-fits}

@@ -5,8 +5,8 @@ use mathlib.Core.Path.{_≡_}
 use mathlib.Core.Bool.{cond, _||_}
 use mathlib.Core.List.{List, [], _∷_}
 use lib.Dec.{eqb}
-use Rattle.post.specs.Fields.{postAt}
-use Rattle.post.specs.declared.fields.Post.{Post}
+use Rattle.kinds.specs.Fields.{postAt}
+use Rattle.kinds.specs.declared.fields.Post.{Post}
 use Rattle.book.specs.Ledger.{brings}
 use Rattle.claims.specs.Demand as demand
 use Rattle.claims.specs.Standing.{Call, standing, countedIn}

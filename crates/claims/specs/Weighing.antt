@@ -14,7 +14,7 @@ use Rattle.layout.specs.Each.{sumTo}
 use Rattle.layout.specs.Frame.{countOf, bodyOf}
 use Rattle.plant.specs.Stage.{sewered, landfilled, waterRow, rateRow}
 use Rattle.plant.specs.declared.setup.Rates.{Rates}
-use Rattle.post.specs.Account.{held, shipped, offSite, landfill, soil, consumed, gas, water, vapour}
+use Rattle.kinds.specs.Account.{held, shipped, offSite, landfill, soil, consumed, gas, water, vapour}
 use Rattle.post.specs.declared.moves.Move.{Move}
 use Rattle.post.specs.declared.moves.Move.the-variants.{Received, Issued, Brought, Gone, Close}
 use Rattle.book.specs.Entry.{closes}

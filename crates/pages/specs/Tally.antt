@@ -16,7 +16,7 @@ use Rattle.layout.specs.declared.holds.SetupPart.{SetupPart}
 use Rattle.layout.specs.declared.holds.SetupPart.the-variants.{Materials, Stage}
 use Rattle.layout.specs.declared.outline.Outline.{Outline}
 use Rattle.layout.specs.declared.verdict.Verdict.{Verdict}
-use Rattle.post.specs.Kind.{Row}
+use Rattle.kinds.specs.Kind.{Row}
 use Rattle.post.specs.Moves.{wellFormed}
 use Rattle.pages.specs.declared.tally.Tally.{Tally}
 

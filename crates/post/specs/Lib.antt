@@ -1,5 +1,2 @@
-pub mod Account
-pub mod Fields
-pub mod Kind
 pub mod Moves
 pub mod Steps

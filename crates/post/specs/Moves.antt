@@ -11,13 +11,13 @@ use Rattle.forms.specs.Form.{unusedRanges, inRanges, inForm}
 use Rattle.losses.specs.Loss.{lossOver}
 use Rattle.layout.specs.Posts.{postSize}
 use Rattle.layout.specs.declared.outline.Outline.{Outline}
-use Rattle.post.specs.Fields.{postAt}
-use Rattle.post.specs.Kind.{Row, fieldsFit, kindOf}
-use Rattle.post.specs.declared.fields.Post.{Post}
-use Rattle.post.specs.declared.kind.Does.{Does}
-use Rattle.post.specs.declared.kind.Does.the-variants.{Receives, Issues, Brings, Leaves, Closes}
-use Rattle.post.specs.declared.kind.Measure.{Measure}
-use Rattle.post.specs.declared.kind.Measure.the-variants.{Quantity, Content, Loss}
+use Rattle.kinds.specs.Fields.{postAt}
+use Rattle.kinds.specs.Kind.{Row, fieldsFit, kindOf}
+use Rattle.kinds.specs.declared.fields.Post.{Post}
+use Rattle.kinds.specs.declared.kind.Does.{Does}
+use Rattle.kinds.specs.declared.kind.Does.the-variants.{Receives, Issues, Brings, Leaves, Closes}
+use Rattle.kinds.specs.declared.kind.Measure.{Measure}
+use Rattle.kinds.specs.declared.kind.Measure.the-variants.{Quantity, Content, Loss}
 use Rattle.post.specs.declared.moves.Move.{Move}
 use Rattle.post.specs.declared.moves.Move.the-variants.{Received, Issued, Brought, Gone, Close}
 use Rattle.post.specs.declared.moves.MoveRead.{MoveRead}

@@ -7,11 +7,11 @@ use Rattle.forms.specs.Binary64.{valueOf}
 use Rattle.losses.specs.Coefficient.{rowOf}
 use Rattle.losses.specs.Loss.{lossOver}
 use Rattle.layout.specs.declared.outline.Outline.{Outline}
-use Rattle.post.specs.Kind.{Row}
+use Rattle.kinds.specs.Kind.{Row}
+use Rattle.kinds.specs.declared.fields.Post.{Post}
+use Rattle.kinds.specs.declared.kind.Measure.{Measure}
+use Rattle.kinds.specs.declared.kind.Measure.the-variants.{Quantity, Content, Loss}
 use Rattle.post.specs.Moves.{floatsUnused}
-use Rattle.post.specs.declared.fields.Post.{Post}
-use Rattle.post.specs.declared.kind.Measure.{Measure}
-use Rattle.post.specs.declared.kind.Measure.the-variants.{Quantity, Content, Loss}
 use Rattle.post.specs.declared.moves.Laid.{Laid}
 use Rattle.post.specs.declared.moves.LaidRead.{LaidRead}
 use Rattle.post.specs.declared.moves.LaidRead.the-variants as laid

@@ -1,5 +1,2 @@
-// What a post's bytes say: its fields, the limits of its kind, and what it moves.
-pub mod account;
-pub mod fields;
-pub mod kind;
+// What a post does, read from its bytes.
 pub mod moves;

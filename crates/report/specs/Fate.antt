@@ -9,7 +9,7 @@ use Rattle.layout.specs.Each.{sumTo}
 use Rattle.plant.specs.Setup.{noRates}
 use Rattle.plant.specs.declared.setup.Rates.{Rates}
 use Rattle.plant.specs.declared.setup.Setup.{Setup}
-use Rattle.post.specs.Account.{held, shipped, offSite, landfill, soil, consumed, gas, water, vapour}
+use Rattle.kinds.specs.Account.{held, shipped, offSite, landfill, soil, consumed, gas, water, vapour}
 use Rattle.book.specs.Ledger.{cell}
 use Rattle.report.specs.declared.fate.Cells.{Cells}
 use Rattle.report.specs.declared.fate.Headings.{Headings}

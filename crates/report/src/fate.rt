@@ -9,8 +9,8 @@ ghost use Rattle.report.specs.Steps.{addHeadings, addFates};
 use amounts::treatment;
 use amounts::treatment::Parts;
 use amounts::treatment::Split;
+use kinds::account;
 use plant::setup::Setup;
-use post::account;
 
 // In micrograms.
 pub struct Headings {

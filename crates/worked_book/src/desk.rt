@@ -7,9 +7,9 @@ use book::block;
 use book::posts::take_post;
 use book::site;
 use book::site::Book;
+use kinds::fields::Post;
 use plant::setup::check_setup;
 use plant::stage::check_stage;
-use post::fields::Post;
 use report::report::report_of;
 
 pub(crate) fn give(b: Book, p: Post) -> Book

@@ -7,7 +7,7 @@ use crate::posts::Field;
 use crate::sites;
 use crate::trials;
 use book::site::Book;
-use post::fields::Post;
+use kinds::fields::Post;
 
 const ONE: u64 = 0x3ff0000000000000;
 

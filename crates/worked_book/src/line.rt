@@ -1,8 +1,8 @@
 // The parts of a line: what was called, numbers with a space before each, and the answer, which ends the line.
 use amounts::decline::Decline;
+use kinds::fields::Post;
 use layout::verdict::Verdict;
 use libc::STDOUT_FILENO;
-use post::fields::Post;
 use report::fate::Headings;
 use report::report::Filing;
 use report::report::Report;

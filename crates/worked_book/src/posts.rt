@@ -1,6 +1,6 @@
 // Posts by what their kinds use, and their bytes.
 ghost use Prim.Native.Nat.{_+_, _≤_};
-use post::fields::Post;
+use kinds::fields::Post;
 
 fn put32(out: &mut [u8; 48], at: usize, x: u32)
     requires { ⌜ at + 4 ≤ 48 ⌝ }

@@ -6,7 +6,7 @@ use book::block;
 use book::posts::take_post;
 use book::site;
 use book::site::Book;
-use post::fields::Post;
+use kinds::fields::Post;
 
 // The first material is full, the second holds 81 only.
 pub(crate) fn materials() -> [u8; 500] {

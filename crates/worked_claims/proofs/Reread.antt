@@ -8,7 +8,7 @@ use Rattle.layout.specs.Bytes.{le, written, placed}
 use Rattle.layout.specs.Each.{sumTo, allTo, listTo, putTo}
 use Rattle.plant.specs.Setup.{setUpOn}
 use Rattle.plant.specs.Stage.{secondOf, ratesAt, describedOn}
-use Rattle.post.specs.Fields.{postAt}
+use Rattle.kinds.specs.Fields.{postAt}
 use Rattle.post.specs.Moves.{measured}
 use Rattle.book.specs.Block.{blockOn}
 use Rattle.book.specs.Posts.{postsOn, singleOn}

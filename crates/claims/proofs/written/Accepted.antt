@@ -16,8 +16,8 @@ use Rattle.layout.specs.declared.holds.Holds.the-variants.{SetUp, Posts}
 use Rattle.layout.specs.declared.holds.SetupPart.{SetupPart}
 use Rattle.layout.specs.declared.outline.Outline.{Outline}
 use Rattle.layout.proofs.Checked.{AllPass, passed, pass-both}
-use Rattle.post.specs.Fields.{postAt}
-use Rattle.post.specs.Kind.{fieldsFit, kindOf}
+use Rattle.kinds.specs.Fields.{postAt}
+use Rattle.kinds.specs.Kind.{fieldsFit, kindOf}
 use Rattle.post.specs.Moves.{laidOut, floatsFit, wellFormed}
 use Rattle.pages.specs.Page.{Page, posted, postOn, withPart, setUpOn}
 use Rattle.pages.specs.Tally.{isFree, partOfKind, partChecks, setUpChecks, mayBegin, postAnswer}

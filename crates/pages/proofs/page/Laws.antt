@@ -14,7 +14,7 @@ use Rattle.layout.specs.Frame.{bodyOf, blockOf}
 use Rattle.layout.specs.Verdict.{verdictOf}
 use Rattle.layout.specs.declared.holds.SetupPart.{SetupPart}
 use Rattle.layout.specs.declared.verdict.Verdict.the-variants.{Accepted, Declined}
-use Rattle.post.specs.Kind.{Row}
+use Rattle.kinds.specs.Kind.{Row}
 use Rattle.layout.proofs.bytes.Placed.{placed-in}
 use Rattle.pages.proofs.tally.Laws.{tally-fresh, early, posted-finishes, posted-joins, set-up-free, post-begun, end-begun}
 use Rattle.layout.specs.Bytes.{placed}

@@ -21,7 +21,7 @@ use Rattle.layout.specs.declared.holds.SetupPart.{SetupPart}
 use Rattle.layout.specs.declared.holds.SetupPart.the-variants.{Materials, Stage}
 use Rattle.layout.specs.declared.outline.Outline.{Outline}
 use Rattle.layout.specs.declared.verdict.Verdict.the-variants.{Accepted, Declined}
-use Rattle.post.specs.Kind.{Row}
+use Rattle.kinds.specs.Kind.{Row}
 use Rattle.post.specs.Moves.{wellFormed}
 use Rattle.pages.specs.Tally.{freshTally, isFree, asPart, partOfKind, partChecks, setUpChecks, mayBegin, postAnswer, finished, posted, ended, outlineAfter}
 use Rattle.pages.specs.Tally.{setUp, partOn, setUpOn, postOn, Begun, Sound, Counts}

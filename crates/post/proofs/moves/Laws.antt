@@ -17,20 +17,20 @@ use Rattle.layout.specs.declared.outline.Outline.{Outline}
 use Rattle.layout.specs.Verdict.{verdictOf}
 use Rattle.layout.specs.declared.verdict.Verdict.the-variants.{Accepted, Declined}
 use Rattle.layout.proofs.Checked.{passed}
-use Rattle.post.specs.Fields.{postAt}
-use Rattle.post.specs.Kind.{Row, fieldsFit, kindOf, kindAt, limited}
+use Rattle.kinds.specs.Fields.{postAt}
+use Rattle.kinds.specs.Kind.{Row, fieldsFit, kindOf, kindAt, limited}
+use Rattle.kinds.specs.declared.fields.Post.{Post}
+use Rattle.kinds.specs.declared.kind.Does.{Does}
+use Rattle.kinds.specs.declared.kind.Does.the-variants.{Receives, Issues, Brings, Leaves, Closes}
+use Rattle.kinds.specs.declared.kind.Kind.{Kind}
+use Rattle.kinds.specs.declared.kind.Measure.{Measure}
+use Rattle.kinds.specs.declared.kind.Measure.the-variants.{Quantity, Content, Loss}
+use Rattle.kinds.specs.declared.kind.Span.{Span}
+use Rattle.kinds.proofs.kind.Laws.{Stocks, Amounts, Well, Under, well, under, product-small, form-fits, only-six}
 use Rattle.post.specs.Moves.{floatsFit, measured, moveOf, moveIn, laidOut, wellFormed, moveAt}
 use Rattle.post.specs.Steps.{laidAs, laidOf, amountRead, Fits}
-use Rattle.post.specs.declared.fields.Post.{Post}
-use Rattle.post.specs.declared.kind.Does.{Does}
-use Rattle.post.specs.declared.kind.Does.the-variants.{Receives, Issues, Brings, Leaves, Closes}
-use Rattle.post.specs.declared.kind.Kind.{Kind}
-use Rattle.post.specs.declared.kind.Measure.{Measure}
-use Rattle.post.specs.declared.kind.Measure.the-variants.{Quantity, Content, Loss}
-use Rattle.post.specs.declared.kind.Span.{Span}
 use Rattle.post.specs.declared.moves.Laid.{Laid}
 use Rattle.post.specs.declared.moves.Move.{Move}
-use Rattle.post.proofs.kind.Laws.{Stocks, Amounts, Well, Under, well, under, product-small, form-fits, only-six}
 
 -- ---- 6, check by check
 

@@ -14,7 +14,7 @@ use Rattle.layout.specs.Verdict.{verdictOf}
 use Rattle.layout.specs.declared.holds.SetupPart.{SetupPart}
 use Rattle.layout.specs.declared.verdict.Verdict.{Verdict}
 use Rattle.layout.specs.declared.verdict.Verdict.the-variants.{Accepted, Declined}
-use Rattle.post.specs.Kind.{Row}
+use Rattle.kinds.specs.Kind.{Row}
 use Rattle.pages.specs.Calls as calls
 use Rattle.layout.specs.Bytes.{placed}
 use Rattle.pages.specs.Page as pages

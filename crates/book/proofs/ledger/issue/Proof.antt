@@ -4,7 +4,7 @@ use Prim.Native.Nat.{_-_, _≤_}
 use native.Mathlib.Omega.{arith}
 use borrow.Author.Needs.{needs}
 use Rattle.layout.specs.Each.{putTo}
-use Rattle.post.specs.Account.{held}
+use Rattle.kinds.specs.Account.{held}
 use Rattle.book.specs.Ledger.{cellOf, raised, brings}
 use Rattle.book.proofs.ledger.Laws.{own-place, raised-room, raised-again}
 use Rattle.book.proofs.ledger.issue.Statement.{statement}

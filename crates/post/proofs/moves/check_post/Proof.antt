@@ -3,8 +3,8 @@ use mathlib.Core.Path.{_≡_, sym, ap, _∙_}
 use borrow.Author.Needs.{needs}
 use denote.Ref.{now}
 use Rattle.amounts.specs.Decline.{taken}
-use Rattle.post.specs.Fields.{postAt}
-use Rattle.post.specs.Kind.{Row}
+use Rattle.kinds.specs.Fields.{postAt}
+use Rattle.kinds.specs.Kind.{Row}
 use Rattle.post.specs.Moves.{floatsFit, laidOut}
 use Rattle.post.specs.Steps.{laidAs, laidAnswer}
 use Rattle.post.specs.declared.moves.Laid.{Laid}

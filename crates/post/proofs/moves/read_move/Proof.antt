@@ -5,13 +5,13 @@ use borrow.Author.Needs.{needs}
 use denote.Ref.{now}
 use Rattle.amounts.specs.Decline.{taken}
 use Rattle.losses.specs.Loss as losses
-use Rattle.post.specs.Fields.{postAt}
-use Rattle.post.specs.Kind.{Row}
+use Rattle.kinds.specs.Fields.{postAt}
+use Rattle.kinds.specs.Kind.{Row}
+use Rattle.kinds.specs.declared.fields.Post.{Post}
+use Rattle.kinds.proofs.kind.Laws.{well, under, product-fits}
 use Rattle.post.specs.Moves.{moveOf, laidOut}
 use Rattle.post.specs.Steps.{laidAs, laidAnswer, amountRead}
-use Rattle.post.specs.declared.fields.Post.{Post}
 use Rattle.post.specs.declared.moves.Laid.{Laid}
-use Rattle.post.proofs.kind.Laws.{well, under, product-fits}
 use Rattle.post.proofs.moves.Laws.{known-laid, refused-laid, row-laid, not-laid, no-amount, amount}
 use Rattle.post.proofs.moves.read_move.Statement.{statement}
 use Rattle.post.proofs.moves.read_move.Tie as tie

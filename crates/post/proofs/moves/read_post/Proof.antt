@@ -5,11 +5,11 @@ use denote.Ref.{now}
 use lib.ListN.{length}
 use Rattle.amounts.specs.Decline.{Answer, taken}
 use Rattle.layout.proofs.verdict.Laws.{holds, misses}
-use Rattle.post.specs.Fields.{postAt}
-use Rattle.post.specs.Kind as kinds
-use Rattle.post.specs.Kind.{Row, fieldsFit, kindOf, kindAt}
-use Rattle.post.specs.declared.fields.Post.{Post}
-use Rattle.post.specs.declared.kind.Kind.{Kind}
+use Rattle.kinds.specs.Fields.{postAt}
+use Rattle.kinds.specs.Kind as kinds
+use Rattle.kinds.specs.Kind.{Row, fieldsFit, kindOf, kindAt}
+use Rattle.kinds.specs.declared.fields.Post.{Post}
+use Rattle.kinds.specs.declared.kind.Kind.{Kind}
 use Rattle.post.specs.declared.moves.Laid.{Laid}
 use Rattle.post.proofs.moves.Laws.{wrong-length, no-row, no-fit, laid, known-row, refused-row}
 use Rattle.post.proofs.moves.read_post.Statement.{statement}

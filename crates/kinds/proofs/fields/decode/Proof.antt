@@ -1,7 +1,7 @@
 use borrow.Author.Needs.{needs}
-use Rattle.post.specs.Fields.{postAt}
-use Rattle.post.proofs.fields.decode.Statement.{statement}
-use Rattle.post.proofs.fields.decode.Tie as tie
+use Rattle.kinds.specs.Fields.{postAt}
+use Rattle.kinds.proofs.fields.decode.Statement.{statement}
+use Rattle.kinds.proofs.fields.decode.Tie as tie
 
 byte-at-requires : tie.Need-byte-at-requires
 byte-at-requires c κs = search needs

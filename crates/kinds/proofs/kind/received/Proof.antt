@@ -1,7 +1,7 @@
 use mathlib.Core.Path.{refl}
 use borrow.Author.Needs.{needs}
-use Rattle.post.proofs.kind.received.Statement.{statement}
-use Rattle.post.proofs.kind.received.Tie as tie
+use Rattle.kinds.proofs.kind.received.Statement.{statement}
+use Rattle.kinds.proofs.kind.received.Tie as tie
 
 below-requires : tie.Need-below-requires
 below-requires c κs = search needs

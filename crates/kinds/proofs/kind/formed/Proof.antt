@@ -1,7 +1,7 @@
 use mathlib.Core.Path.{refl}
 use borrow.Author.Needs.{needs}
-use Rattle.post.proofs.kind.stated.Statement.{statement}
-use Rattle.post.proofs.kind.stated.Tie as tie
+use Rattle.kinds.proofs.kind.formed.Statement.{statement}
+use Rattle.kinds.proofs.kind.formed.Tie as tie
 
 below-requires : tie.Need-below-requires
 below-requires c κs = search needs
@@ -12,5 +12,5 @@ below-requires-2 c κs = search needs
 returns : tie.Need-returns
 returns c = rw (c .before .below .ensures, c .below2 .ensures) refl
 
-pub stated-spec : {M : Type 1} → statement M
-stated-spec = tie.close (tie.spec below-requires below-requires-2 returns)
+pub formed-spec : {M : Type 1} → statement M
+formed-spec = tie.close (tie.spec below-requires below-requires-2 returns)

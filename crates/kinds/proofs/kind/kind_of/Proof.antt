@@ -1,10 +1,10 @@
 use mathlib.Core.Path.{refl, ap}
 use Rattle.amounts.specs.Decline.{taken}
-use Rattle.post.specs.Kind.{rows, kindOf}
-use Rattle.post.proofs.kind.Laws.{known, unknown}
+use Rattle.kinds.specs.Kind.{rows, kindOf}
+use Rattle.kinds.proofs.kind.Laws.{known, unknown}
 use borrow.Author.Needs.{needs}
-use Rattle.post.proofs.kind.kind_of.Statement.{statement}
-use Rattle.post.proofs.kind.kind_of.Tie as tie
+use Rattle.kinds.proofs.kind.kind_of.Statement.{statement}
+use Rattle.kinds.proofs.kind.kind_of.Tie as tie
 
 received-requires : tie.Need-received-requires
 received-requires c κs = search needs

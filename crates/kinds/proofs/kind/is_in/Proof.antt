@@ -1,6 +1,6 @@
 use borrow.Author.Tests.{le-leb, lt-leb}
-use Rattle.post.proofs.kind.is_in.Statement.{statement}
-use Rattle.post.proofs.kind.is_in.Tie as tie
+use Rattle.kinds.proofs.kind.is_in.Statement.{statement}
+use Rattle.kinds.proofs.kind.is_in.Tie as tie
 
 returns : tie.Need-returns
 returns c = let a = c .before .before .args in rw (lt-leb (a .span .from) (a .n) (c .if1 .taken))

@@ -1,9 +1,9 @@
 // The kinds of posts: one row for each, with the limits of its fields, how its amount is measured, and what it does.
 ghost use mathlib.Core.Path.{_≡_};
-ghost use Rattle.post.specs.Kind.{inSpan, fieldsFit, kindOf, limited, answer, ofStock, ofIssue, ofMicrograms, ofContent, ofForm};
-ghost use Rattle.post.specs.declared.kind.Does.the-variants.{Receives, Issues, Brings, Leaves, Closes};
-ghost use Rattle.post.specs.declared.kind.Measure.the-variants.{Quantity, Content, Loss};
-ghost use Rattle.post.specs.Account.{held, vapour};
+ghost use Rattle.kinds.specs.Kind.{inSpan, fieldsFit, kindOf, limited, answer, ofStock, ofIssue, ofMicrograms, ofContent, ofForm};
+ghost use Rattle.kinds.specs.declared.kind.Does.the-variants.{Receives, Issues, Brings, Leaves, Closes};
+ghost use Rattle.kinds.specs.declared.kind.Measure.the-variants.{Quantity, Content, Loss};
+ghost use Rattle.kinds.specs.Account.{held, vapour};
 use crate::account::CONSUMED;
 use crate::account::GAS;
 use crate::account::HELD;

@@ -10,15 +10,15 @@ use lib.Dec.{eqb, leb, ltb}
 use Rattle.amounts.specs.Decline.{Answer, taken, declined, layout}
 use Rattle.layout.specs.declared.outline.Outline.{Outline}
 use Rattle.layout.proofs.Each.{and-true}
-use Rattle.post.specs.Kind.{Row, below, formNumbers, contents, grams, micrograms, inSpan, fieldsFit, rows, rowIf, find, kindOf, limited}
-use Rattle.post.specs.declared.fields.Post.{Post}
-use Rattle.post.specs.declared.kind.Does.{Does}
-use Rattle.post.specs.declared.kind.Does.the-variants.{Receives, Issues, Brings, Leaves, Closes}
-use Rattle.post.specs.declared.kind.Kind.{Kind}
-use Rattle.post.specs.declared.kind.Limits.{Limits}
-use Rattle.post.specs.declared.kind.Measure.{Measure}
-use Rattle.post.specs.declared.kind.Measure.the-variants.{Quantity, Content, Loss}
-use Rattle.post.specs.declared.kind.Span.{Span}
+use Rattle.kinds.specs.Kind.{Row, below, formNumbers, contents, grams, micrograms, inSpan, fieldsFit, rows, rowIf, find, kindOf, limited}
+use Rattle.kinds.specs.declared.fields.Post.{Post}
+use Rattle.kinds.specs.declared.kind.Does.{Does}
+use Rattle.kinds.specs.declared.kind.Does.the-variants.{Receives, Issues, Brings, Leaves, Closes}
+use Rattle.kinds.specs.declared.kind.Kind.{Kind}
+use Rattle.kinds.specs.declared.kind.Limits.{Limits}
+use Rattle.kinds.specs.declared.kind.Measure.{Measure}
+use Rattle.kinds.specs.declared.kind.Measure.the-variants.{Quantity, Content, Loss}
+use Rattle.kinds.specs.declared.kind.Span.{Span}
 
 -- ---- looking a kind up
 

@@ -2,8 +2,8 @@ use mathlib.Core.Path.{_≡_}
 use mathlib.Core.Bool.{true}
 use borrow.Author.Tests.{not-true, not-false}
 use borrow.Author.Needs.{needs}
-use Rattle.post.proofs.kind.fields_fit.Statement.{statement}
-use Rattle.post.proofs.kind.fields_fit.Tie as tie
+use Rattle.kinds.proofs.kind.fields_fit.Statement.{statement}
+use Rattle.kinds.proofs.kind.fields_fit.Tie as tie
 
 in₁ : (c : tie.Else1) → c .before .is-in .result ≡ true
 in₁ c = not-false (c .before .is-in .result) (c .if1 .left)
