@@ -51,6 +51,6 @@ unfolding formOf
 inForm n w u p q = isTaken (formOf n w u p q)
 
 -- what each case of the code's answer stands for
-abbrev pub formAnswer : FormRead → Answer LossForm
-formAnswer (form.Form f) = taken f
-formAnswer (form.Declined d) = declined (d .number)
+abbrev pub answer : FormRead → Answer LossForm
+answer (form.Form f) = taken f
+answer (form.Declined d) = declined (d .number)

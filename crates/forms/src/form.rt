@@ -1,7 +1,7 @@
 // The three forms of a vapour loss, and the ranges of their inputs.
 ghost use mathlib.Core.Path.{_≡_};
 ghost use Rattle.forms.specs.Binary64.{valueOf};
-ghost use Rattle.forms.specs.Form.{formOf, formAnswer};
+ghost use Rattle.forms.specs.Form.{formOf, answer};
 ghost use Rattle.forms.specs.Steps.{AllUpward, inputsOf, inputsAnswer};
 use crate::pattern;
 use crate::pattern::FloatRead;
@@ -136,7 +136,7 @@ fn read_inputs(ranges: Ranges, w: u64, u: u64, p: u64, q: u64) -> InputsRead
 }
 
 fn read_floating_roof(w: u64, u: u64, p: u64, q: u64) -> FormRead
-    ensures { λ r. ⌜ formAnswer r ≡ formOf 1 (valueOf w) (valueOf u) (valueOf p) (valueOf q) ⌝ }
+    ensures { λ r. ⌜ answer r ≡ formOf 1 (valueOf w) (valueOf u) (valueOf p) (valueOf q) ⌝ }
 {
     match read_inputs(FLOATING_ROOF, w, u, p, q) {
         InputsRead::Values(x) => FormRead::Form(LossForm::FloatingRoof {
@@ -149,7 +149,7 @@ fn read_floating_roof(w: u64, u: u64, p: u64, q: u64) -> FormRead
 }
 
 fn read_fixed_roof(w: u64, u: u64, p: u64, q: u64) -> FormRead
-    ensures { λ r. ⌜ formAnswer r ≡ formOf 2 (valueOf w) (valueOf u) (valueOf p) (valueOf q) ⌝ }
+    ensures { λ r. ⌜ answer r ≡ formOf 2 (valueOf w) (valueOf u) (valueOf p) (valueOf q) ⌝ }
 {
     match read_inputs(FIXED_ROOF, w, u, p, q) {
         InputsRead::Values(x) => FormRead::Form(LossForm::FixedRoof {
@@ -163,7 +163,7 @@ fn read_fixed_roof(w: u64, u: u64, p: u64, q: u64) -> FormRead
 }
 
 fn read_station(w: u64, u: u64, p: u64, q: u64) -> FormRead
-    ensures { λ r. ⌜ formAnswer r ≡ formOf 3 (valueOf w) (valueOf u) (valueOf p) (valueOf q) ⌝ }
+    ensures { λ r. ⌜ answer r ≡ formOf 3 (valueOf w) (valueOf u) (valueOf p) (valueOf q) ⌝ }
 {
     match read_inputs(STATION, w, u, p, q) {
         InputsRead::Values(x) => FormRead::Form(LossForm::Station {
@@ -178,7 +178,7 @@ fn read_station(w: u64, u: u64, p: u64, q: u64) -> FormRead
 
 // The form of a number with its inputs, from four bit patterns.
 pub fn read_form(form: u8, w: u64, u: u64, p: u64, q: u64) -> FormRead
-    ensures { λ r. ⌜ formAnswer r ≡ formOf form (valueOf w) (valueOf u) (valueOf p) (valueOf q) ⌝ }
+    ensures { λ r. ⌜ answer r ≡ formOf form (valueOf w) (valueOf u) (valueOf p) (valueOf q) ⌝ }
 {
     if form == 1 {
         return read_floating_roof(w, u, p, q);
