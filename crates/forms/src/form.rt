@@ -1,7 +1,7 @@
 // The three forms of a vapour loss, and the ranges of their inputs.
 ghost use mathlib.Core.Path.{_≡_};
 ghost use Rattle.forms.specs.Binary64.{valueOf};
-ghost use Rattle.forms.specs.Form.{formOf, answer};
+ghost use Rattle.forms.specs.Form.{formOf, inForm, answer};
 ghost use Rattle.forms.specs.Steps.{AllUpward, inputsOf, inputsAnswer};
 use crate::pattern;
 use crate::pattern::FloatRead;
@@ -190,4 +190,14 @@ pub fn read_form(form: u8, w: u64, u: u64, p: u64, q: u64) -> FormRead
         return read_station(w, u, p, q);
     }
     FormRead::Declined(decline::LAYOUT)
+}
+
+// Whether four bit patterns are in the ranges of a form's number; a number that is no form has none.
+pub fn in_form(form: u8, w: u64, u: u64, p: u64, q: u64) -> bool
+    ensures { λ r. ⌜ r ≡ inForm form (valueOf w) (valueOf u) (valueOf p) (valueOf q) ⌝ }
+{
+    match read_form(form, w, u, p, q) {
+        FormRead::Form(_) => true,
+        FormRead::Declined(_) => false,
+    }
 }

@@ -3,7 +3,6 @@ ghost use mathlib.Core.Path.{_≡_};
 ghost use lib.Ieee.{Float};
 ghost use Rattle.forms.specs.Binary64.{valueOf};
 ghost use Rattle.losses.specs.Coefficient as coefficients;
-ghost use Rattle.forms.specs.Form.{inForm};
 ghost use Rattle.losses.specs.Loss.{floatingRoofKg, fixedRoofKg, stationKg, kgOf, limitedOf, lossOf, lossOver, vapourOf, answer};
 ghost use Rattle.losses.specs.Steps.{kgAnswer};
 use crate::coefficient;
@@ -108,16 +107,6 @@ pub fn loss_over(form: u8, found: RowRead, w: u64, u: u64, p: u64, q: u64) -> Lo
     match form::read_form(form, w, u, p, q) {
         FormRead::Form(f) => loss_of(f, found),
         FormRead::Declined(d) => Loss::Declined(d),
-    }
-}
-
-// Whether four bit patterns are in the ranges of a form's number; a number that is no form has none.
-pub fn in_form(form: u8, w: u64, u: u64, p: u64, q: u64) -> bool
-    ensures { λ r. ⌜ r ≡ inForm form (valueOf w) (valueOf u) (valueOf p) (valueOf q) ⌝ }
-{
-    match form::read_form(form, w, u, p, q) {
-        FormRead::Form(_) => true,
-        FormRead::Declined(_) => false,
     }
 }
 

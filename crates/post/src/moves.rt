@@ -12,6 +12,7 @@ ghost use Rattle.post.specs.Moves.{floatsUnused, floatsFit, moveOf, laid
 ghost use Rattle.post.specs.Steps.{laidOf, laidAnswer, amountRead};
 use amounts::decline;
 use amounts::decline::Decline;
+use forms::form;
 use forms::pattern;
 use kinds::fields;
 use kinds::fields::Post;
@@ -179,7 +180,7 @@ fn floats_fit(m: Measure, p: Post) -> bool
     match m {
         Measure::Quantity => has_no_floats(p),
         Measure::Content => has_no_floats(p),
-        Measure::Loss => loss::in_form(p.material, p.w, p.u, p.p, p.q),
+        Measure::Loss => form::in_form(p.material, p.w, p.u, p.p, p.q),
     }
 }
 

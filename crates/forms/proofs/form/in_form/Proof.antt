@@ -1,7 +1,7 @@
 use borrow.Author.Needs.{needs}
 use Rattle.forms.specs.Form.{inForm}
-use Rattle.losses.proofs.loss.in_form.Statement.{statement}
-use Rattle.losses.proofs.loss.in_form.Tie as tie
+use Rattle.forms.proofs.form.in_form.Statement.{statement}
+use Rattle.forms.proofs.form.in_form.Tie as tie
 
 read-form-requires : tie.Need-read-form-requires
 read-form-requires c κs = search needs
