@@ -60,6 +60,10 @@ noSubstance = 12
 abbrev pub noRoom : ℕ
 noRoom = 13
 
+-- 14: the counted grams exceed 8×10^12 or the material isn't in the book
+abbrev pub stockCount : ℕ
+stockCount = 14
+
 -- a test, and the number of the decline where it fails
 pub data Check : Type 0 where
   check : Bool → ℕ → Check

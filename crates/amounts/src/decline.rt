@@ -43,3 +43,6 @@ pub const NO_SUBSTANCE: Decline = Decline { number: 12 };
 
 // A set-up block or a post that begins a block finds fewer than 512 bytes left or 65,536 blocks written.
 pub const NO_ROOM: Decline = Decline { number: 13 };
+
+// The counted grams exceed 8×10^12 or the material isn't in the book.
+pub const STOCK_COUNT: Decline = Decline { number: 14 };

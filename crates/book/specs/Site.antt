@@ -1,7 +1,7 @@
 -- The fresh book, what a book holds of a substance, and what is true of every book.
-use Prim.Native.Nat.{ℕ, _+_, _*_, _^_, _≤_, _<_}
+use Prim.Native.Nat.{ℕ, _+_, _-_, _*_, _^_, _≤_, _<_}
 use mathlib.Core.Path.{_≡_}
-use mathlib.Core.Bool.{false}
+use mathlib.Core.Bool.{Bool, true, false}
 use mathlib.Core.List.{List}
 use lib.ListN.{length, getD, replicate}
 use Rattle.layout.specs.Each.{sumTo}
@@ -33,16 +33,20 @@ stored u y s = storedTo (y .store) (u .counted) s 12
 abbrev pub inYear : Setup → Year → ℕ → ℕ
 inYear u y s = total (y .sums) s + stored u y s
 
--- A post brings in at most 2×10^15 micrograms of a substance, so that no sum can pass 64 bits. The close is the post past 4,000.
+-- of a year's posts those before its close, which is the last and brings nothing in
+abbrev pub openPosts : Bool → ℕ → ℕ
+openPosts true posts = posts - 1
+openPosts false posts = posts
+
+-- A post before the close brings in at most 2×10^9 g of a material and 2×10^15 micrograms of a substance, and there are at most 4,000: no sum can pass 64 bits.
 pub record SoundYear (u : Setup) (y : Year) : Type 0 where
   pub store-long : length (y .store) ≡ 12
   pub sums-long : length (y .sums) ≡ 576
   pub handled-long : length (y .handled) ≡ 8
-  pub posts-few : y .posts ≤ 4001
-  pub while-open : y .closed ≡ false → y .posts ≤ 4000
+  pub posts-few : openPosts (y .closed) (y .posts) ≤ 4000
   pub none-before : mayPost (u .outline) ≡ false → y .posts ≡ 0
-  pub bounded : (s : ℕ) → s < 8 → inYear u y s ≤ 2 * 10 ^ 15 * y .posts
-  pub stores : (m : ℕ) → m < 12 → getD (y .store) m 0 ≤ 2 * 10 ^ 9 * y .posts
+  pub bounded : (s : ℕ) → s < 8 → inYear u y s ≤ 2 * 10 ^ 15 * openPosts (y .closed) (y .posts)
+  pub stores : (m : ℕ) → m < 12 → getD (y .store) m 0 ≤ 2 * 10 ^ 9 * openPosts (y .closed) (y .posts)
   -- what was handled is what the ledger holds: the one is added up as it comes in, the other is where it went
   pub weighed : (s : ℕ) → s < 8 → getD (y .handled) s 0 ≡ total (y .sums) s
 

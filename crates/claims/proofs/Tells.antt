@@ -29,7 +29,7 @@ use Rattle.post.proofs.moves.Laws.{move-fits}
 use Rattle.post.proofs.moves.Named.{Named, row-read, said-is, move-named}
 use Rattle.book.specs.Entry.{enters, handles, sumsAfter, closes}
 use Rattle.book.specs.Posts.{postOn, takenTo, singleOn}
-use Rattle.book.specs.Site.{SoundYear, inYear, bookWith, freshBook}
+use Rattle.book.specs.Site.{SoundYear, inYear, openPosts, bookWith, freshBook}
 use Rattle.book.specs.declared.site.Book.{Book}
 use Rattle.book.specs.declared.site.Year.{Year}
 use Rattle.book.proofs.block.Laws.{Done, set-up, described, posted, block-done, done-sound, SoundParts}
@@ -38,7 +38,7 @@ use Rattle.book.proofs.ledger.Laws.{cell-le}
 use Rattle.book.proofs.posts.Laws as posts
 use Rattle.book.proofs.posts.Laws.{Posted, post-step}
 use Rattle.plant.proofs.setup.Taken as first
-use Rattle.book.proofs.site.Laws.{sound-fresh}
+use Rattle.book.proofs.site.Laws.{sound-fresh, open-posts-le}
 use Rattle.plant.proofs.stage.Taken as stage
 use Rattle.claims.specs.Demand as demand
 use Rattle.claims.specs.Standing.{Call, post, block, answerTo, run, keep, accepted, Standing, nothing, withPosts, withBlock, stand, stood, standing}
@@ -93,7 +93,7 @@ module _ (w : Standing) (u : Setup) (y : Year) (blocks : ℕ) (h : SoundSetup u)
   zero-of x n l e = omega arith
 
   in-none : (s : ℕ) → s < 8 → inYear u y s ≡ 0
-  in-none s hs = zero-of (inYear u y s) (y .posts) (g .bounded s hs) none
+  in-none s hs = zero-of (inYear u y s) (openPosts (y .closed) (y .posts)) (g .bounded s hs) (omega (arith, none, open-posts-le (y .closed) (y .posts)))
 
   tells-empty : y .closed ≡ false → Setting w u → Tells w (bookWith u y blocks)
   tells-empty o setting =
@@ -165,7 +165,7 @@ module _ (w : Standing) (b : Book) (z : Year) (s : List ℕ) (blocks : ℕ) (h :
       let step = post-step u y z s (h .sound .setup) (h .sound .year) p in
       let m = p .move in
       let fit = move-fits (u .outline) (u .numbers) s m (p .admitted .told) in
-      let room = room-of u y (h .sound .setup) (h .sound .year) m (p .admitted .is-open) fit in
+      let room = room-of u y (h .sound .setup) (h .sound .year) m fit in
       let is-named = move-named (u .outline) (u .numbers) s m (p .admitted .told) in
       record {
         sound = record { setup = h .sound .setup; year = step .sound };

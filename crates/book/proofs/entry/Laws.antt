@@ -1,13 +1,13 @@
 -- What a move has room for, and what it does to a year: the year stays sound, and what it holds and has handled grows by what the move brings. Assumes nothing.
 use mathlib.Core.Path.{_≡_, refl, sym, ap, _∙_}
-use mathlib.Core.Bool.{Bool, true, false, true≢false, cond}
+use mathlib.Core.Bool.{Bool, true, false, true≢false, cond, _||_}
 use mathlib.Core.List.{List}
 use Prim.Native.Nat.{ℕ, _+_, _-_, _*_, _^_, _≤_, _<_}
 use native.Mathlib.Decide.{ℕ-discrete}
 use native.Mathlib.Nat.{add-mul, mul-le-mul}
 use native.Mathlib.Omega.{arith}
 use borrow.Author.Tests.{leb-true, ltb-true, eq-eqb, ne-eqb}
-use lib.Dec.{eqb}
+use lib.Dec.{eqb, ltb}
 use lib.ListN.{length, getD, set, length-set}
 use lib.Seq.{getD-set-same, getD-set-other}
 use Rattle.layout.specs.Outline.{mayPost}
@@ -21,10 +21,11 @@ use Rattle.post.specs.declared.moves.Move.the-variants.{Received, Issued, Broug
 use Rattle.book.specs.Entry.{isThere, storeAfter, sumsAfter, handledAfter, closes, yearAfter, enters, handles}
 use Rattle.book.specs.Ledger.{cellOf, cell, total, added, brings}
 use Rattle.book.specs.Posts.{hasRoom}
-use Rattle.book.specs.Site.{SoundYear, storedTo, inYear}
+use Rattle.book.specs.Site.{SoundYear, storedTo, inYear, openPosts}
 use Rattle.plant.specs.Setup.{SoundSetup}
 use Rattle.book.specs.Steps.{widest, Room, Entered}
 use Rattle.book.specs.declared.site.Year.{Year}
+use Rattle.book.proofs.site.Laws.{open-posts-le, open-few}
 use Rattle.book.proofs.ledger.Laws.{total-set, total-other, cell-le, length-moved, total-moved, grown-le, length-settled, total-settled, length-raised, handled-raised, total-raised}
 
 -- ---- what a move has room for
@@ -101,12 +102,12 @@ fits-widest o (Gone a stage s n) hs hm hst f = (f .0, (omega (arith, f .1 .0), (
 fits-widest o Close hs hm hst f = tt
 
 module _ (u : Setup) (y : Year) (su : SoundSetup u) (h : SoundYear u y) where
-  pub total-few : (s : ℕ) → s < 8 → total (y .sums) s ≤ 2 * 10 ^ 15 * y .posts
+  pub total-few : (s : ℕ) → s < 8 → total (y .sums) s ≤ 2 * 10 ^ 15 * openPosts (y .closed) (y .posts)
   total-few s hs = omega (arith, h .bounded s hs)
 
-  pub room-of : (m : Move) → y .closed ≡ false → Fits (u .outline) m → Room (u .counted) (y .store) (y .sums) (y .handled) m
-  room-of m is-open f =
-      let few = h .while-open is-open in
+  pub room-of : (m : Move) → Fits (u .outline) m → Room (u .counted) (y .store) (y .sums) (y .handled) m
+  room-of m f =
+      let few = h .posts-few in
       record {
         fits = fits-widest (u .outline) m (su .substances-few) (su .materials-few) (su .stages-few) f;
         counted-small = su .counted-small;
@@ -186,18 +187,18 @@ record Leaves (u : Setup) (y : Year) (m : Move) : Type 0 where
   totals : (s : ℕ) → s < 8 → total (sumsAfter (u .counted) (u .«to_water») (y .sums) m) s ≡ total (y .sums) s + handles (u .counted) s m
   counts : (s : ℕ) → s < 8 → getD (handledAfter (u .counted) (y .handled) m) s 0 ≡ getD (y .handled) s 0 + handles (u .counted) s m
   stored : (s : ℕ) → s < 8 → storedTo (storeAfter (y .store) m) (u .counted) s 12 + handles (u .counted) s m ≡ storedTo (y .store) (u .counted) s 12 + enters (u .counted) s m
-  few : (s : ℕ) → s < 8 → enters (u .counted) s m ≤ 2 * 10 ^ 15
-  stores : (i : ℕ) → i < 12 → getD (storeAfter (y .store) m) i 0 ≤ 2 * 10 ^ 9 * (y .posts + 1)
+  few : (s : ℕ) → s < 8 → 2 * 10 ^ 15 * y .posts + enters (u .counted) s m ≤ 2 * 10 ^ 15 * openPosts (closes m) (y .posts + 1)
+  stores : (i : ℕ) → i < 12 → getD (storeAfter (y .store) m) i 0 ≤ 2 * 10 ^ 9 * openPosts (closes m) (y .posts + 1)
 
 module _ (u : Setup) (y : Year) (h : SoundYear u y) where
-  -- the store as it was is within the bound of one post more
-  stores-same : (i : ℕ) → i < 12 → getD (y .store) i 0 ≤ 2 * 10 ^ 9 * (y .posts + 1)
-  stores-same i hi = omega (arith, h .stores i hi)
+  -- the store as it was is within the bound of one post more, and of a close
+  stores-same : (i : ℕ) → i < 12 → getD (y .store) i 0 ≤ 2 * 10 ^ 9 * y .posts
+  stores-same i hi = omega (arith, h .stores i hi, open-posts-le (y .closed) (y .posts))
 
   stores-set : (m v : ℕ) → m < 12 → v ≤ 2 * 10 ^ 9 * (y .posts + 1) → (j : ℕ) → j < 12 → getD (set (y .store) m v) j 0 ≤ 2 * 10 ^ 9 * (y .posts + 1)
   stores-set m v hm hv j hj =
       let long = h .store-long in
-      bounded-set (y .store) m v (2 * 10 ^ 9 * (y .posts + 1)) (omega arith) (λ i hi. stores-same i (omega arith)) hv j (omega arith)
+      bounded-set (y .store) m v (2 * 10 ^ 9 * (y .posts + 1)) (omega arith) (λ i hi. omega (arith, stores-same i (omega arith))) hv j (omega arith)
 
   abbrev counted : List ℕ
   counted = u .counted
@@ -212,8 +213,8 @@ module _ (u : Setup) (y : Year) (h : SoundYear u y) where
         totals = λ s hs. omega arith;
         counts = λ s hs. omega arith;
         stored = λ s hs. omega (arith, stored-more (y .store) counted m s (f .0) (h .store-long) g);
-        few = λ s hs. brings-small counted m g s (r .counted-small) (f .1);
-        stores = stores-set m (getD (y .store) m 0 + g) (f .0) (omega (arith, f .1, h .stores m (f .0)));
+        few = λ s hs. omega (arith, brings-small counted m g s (r .counted-small) (f .1));
+        stores = stores-set m (getD (y .store) m 0 + g) (f .0) (omega (arith, f .1, stores-same m (f .0)));
       }
   leaves (Issued m stage g) r t =
       let f = r .fits in
@@ -227,7 +228,7 @@ module _ (u : Setup) (y : Year) (h : SoundYear u y) where
         counts = λ s hs. handled-raised amount (y .handled) s (h .handled-long) hs;
         stored = λ s hs. omega (arith, stored-less (y .store) counted m s (f .0) (h .store-long) g have);
         few = λ s hs. omega arith;
-        stores = stores-set m (getD (y .store) m 0 - g) (f .0) (omega (arith, h .stores m (f .0)));
+        stores = stores-set m (getD (y .store) m 0 - g) (f .0) (omega (arith, stores-same m (f .0)));
       }
   leaves (Brought a stage t n) r q =
       let f = r .fits in
@@ -238,8 +239,8 @@ module _ (u : Setup) (y : Year) (h : SoundYear u y) where
         totals = λ s hs. total-added (y .sums) a stage t n s (f .0) (f .1 .0) (f .1 .1 .0) (h .sums-long) hs;
         counts = λ s hs. added-at (y .handled) t n s (omega (arith, h .handled-long, f .1 .1 .0));
         stored = λ s hs. omega arith;
-        few = λ s hs. some-or-none (eqb t s) n (2 * 10 ^ 15) (f .1 .1 .1);
-        stores = stores-same;
+        few = λ s hs. omega (arith, some-or-none (eqb t s) n (2 * 10 ^ 15) (f .1 .1 .1));
+        stores = λ i hi. omega (arith, stores-same i hi);
       }
   leaves (Gone a stage t n) r q =
       let f = r .fits in
@@ -252,7 +253,7 @@ module _ (u : Setup) (y : Year) (h : SoundYear u y) where
         counts = λ s hs. omega arith;
         stored = λ s hs. omega arith;
         few = λ s hs. omega arith;
-        stores = stores-same;
+        stores = λ i hi. omega (arith, stores-same i hi);
       }
   leaves Close r q =
       record {
@@ -263,28 +264,27 @@ module _ (u : Setup) (y : Year) (h : SoundYear u y) where
         counts = λ s hs. omega arith;
         stored = λ s hs. omega arith;
         few = λ s hs. omega arith;
-        stores = stores-same;
+        stores = λ i hi. omega (arith, stores-same i hi);
       }
 
--- what is no close finds room by the count
-under-4000 : (m : Move) (posts : ℕ) → hasRoom posts m ≡ true → closes m ≡ false → posts < 4000
-under-4000 m posts h e = ltb-true posts 4000 (rw e at h)
+-- a close and a post that finds room by the count leave at most 4,000 before the close
+still-few : (close : Bool) (posts : ℕ) → close || ltb posts 4000 ≡ true → posts ≤ 4000 → openPosts close (posts + 1) ≤ 4000
+still-few true posts h few = omega arith
+still-few false posts h few = omega (arith, ltb-true posts 4000 h)
 
 pub stepped : (u : Setup) (y : Year) (m : Move) → SoundSetup u → SoundYear u y → mayPost (u .outline) ≡ true → y .closed ≡ false → Fits (u .outline) m
     → hasRoom (y .posts) m ≡ true → isThere (y .store) (y .sums) m ≡ true → Step u y m (yearAfter u y m)
 stepped u y m su h turn is-open fit room there =
-    let w = leaves u y h m (room-of u y su h m is-open fit) there in
-    let few = h .while-open is-open in
+    let w = leaves u y h m (room-of u y su h m fit) there in
     record {
       sound =
           record {
             store-long = w .store-long;
             sums-long = w .sums-long;
             handled-long = w .handled-long;
-            posts-few = omega arith;
-            while-open = λ e. omega (arith, under-4000 m (y .posts) room e);
+            posts-few = still-few (closes m) (y .posts) room (open-few u y h is-open);
             none-before = λ e. absurd (true≢false (sym turn ∙ e));
-            bounded = λ s hs. omega (arith, w .totals s hs, w .stored s hs, w .few s hs, h .bounded s hs);
+            bounded = λ s hs. omega (arith, w .totals s hs, w .stored s hs, w .few s hs, h .bounded s hs, open-posts-le (y .closed) (y .posts));
             stores = w .stores;
             weighed = λ s hs. omega (arith, w .totals s hs, w .counts s hs, h .weighed s hs);
           };

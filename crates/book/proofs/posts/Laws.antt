@@ -34,6 +34,7 @@ use Rattle.plant.specs.Setup.{SoundSetup}
 use Rattle.book.specs.declared.answer.Answered.{Answered}
 use Rattle.book.specs.declared.site.Book.{Book}
 use Rattle.book.specs.declared.site.Year.{Year}
+use Rattle.book.proofs.site.Laws.{open-few}
 use Rattle.book.proofs.entry.Laws.{Step, stepped, room-of}
 
 -- ---- a post, 4 to 10 and then 11
@@ -227,10 +228,10 @@ module _ (t : Turn) where
     pub turn-room : Room (u .counted) (y .store) (y .sums) (y .handled) m
     turn-room =
         let a = admits u y bytes m e in
-        room-of u y (t .sound-setup) still-sound m (a .is-open) (move-fits (u .outline) (u .numbers) bytes m (a .told))
+        room-of u y (t .sound-setup) still-sound m (move-fits (u .outline) (u .numbers) bytes m (a .told))
 
     pub turn-few : y .posts ≤ 4000
-    turn-few = still-sound .while-open (admits u y bytes m e .is-open)
+    turn-few = open-few u y still-sound (admits u y bytes m e .is-open)
 
     pub turn-taken : isThere (y .store) (y .sums) m ≡ true → all (t .place + 1) ≡ taken (yearAfter u y m)
     unfolding checked

@@ -1,7 +1,8 @@
 -- What keeps a book sound. Assumes nothing.
 use mathlib.Core.Path.{_≡_, refl, sym, _∙_}
+use mathlib.Core.Bool.{Bool, true, false}
 use mathlib.Core.List.{List}
-use Prim.Native.Nat.{ℕ, _+_, _*_, _<_}
+use Prim.Native.Nat.{ℕ, _+_, _*_, _≤_, _<_}
 use native.Mathlib.Nat.{zero-mul}
 use native.Mathlib.Omega.{arith}
 use lib.ListN.{getD, replicate, length-replicate}
@@ -10,8 +11,16 @@ use Rattle.plant.specs.declared.setup.Setup.{Setup}
 use Rattle.layout.proofs.Each.{sum-none}
 use Rattle.plant.proofs.setup.Taken.{same-at, fresh-sound}
 use Rattle.book.specs.Ledger.{total, cellOf}
-use Rattle.book.specs.Site.{Sound, SoundYear, freshBook, storedTo}
+use Rattle.book.specs.Site.{Sound, SoundYear, freshBook, storedTo, openPosts}
 use Rattle.book.specs.declared.site.Year.{Year}
+
+-- the close is one of a year's posts at most
+pub open-posts-le : (closed : Bool) (posts : ℕ) → (openPosts closed posts ≤ posts) × (posts ≤ openPosts closed posts + 1)
+open-posts-le true posts = (omega arith, omega arith)
+open-posts-le false posts = (omega arith, omega arith)
+
+pub open-few : (u : Setup) (y : Year) → SoundYear u y → y .closed ≡ false → y .posts ≤ 4000
+open-few u y h e = rw e at h .posts-few
 
 -- an empty store holds nothing, whatever the contents
 pub stored-none : (store counted : List ℕ) (s : ℕ) → ((m : ℕ) → m < 12 → getD store m 0 ≡ 0) → storedTo store counted s 12 ≡ 0
@@ -35,7 +44,6 @@ sound-fresh =
             sums-long = length-replicate {A = ℕ} 576 0;
             handled-long = length-replicate {A = ℕ} 8 0;
             posts-few = omega arith;
-            while-open = λ e. omega arith;
             none-before = λ e. refl;
             bounded = λ s h. omega (arith, total-none 576 s, stored-none (replicate 12 0) (replicate 96 0) s (λ m l. same-at {A = ℕ} 12 m 0));
             stores = λ m h. omega (arith, same-at {A = ℕ} 12 m 0);
@@ -52,12 +60,13 @@ sound-before u v y h none =
       sums-long = h .sums-long;
       handled-long = h .handled-long;
       posts-few = h .posts-few;
-      while-open = h .while-open;
       none-before = λ e. none;
-      bounded = λ s l. omega (arith, h .bounded s l, stored-none (y .store) (v .counted) s empty);
+      bounded = λ s l. omega (arith, h .bounded s l, nothing, stored-none (y .store) (v .counted) s empty);
       stores = h .stores;
       weighed = h .weighed;
     }
   where
+    nothing : openPosts (y .closed) (y .posts) ≡ 0
+    nothing = omega (arith, open-posts-le (y .closed) (y .posts))
     empty : (m : ℕ) → m < 12 → getD (y .store) m 0 ≡ 0
-    empty m l = omega (arith, h .stores m l)
+    empty m l = omega (arith, h .stores m l, nothing)

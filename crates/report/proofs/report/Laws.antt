@@ -27,10 +27,10 @@ use Rattle.report.proofs.fate.Laws.{fate-total}
 -- what a sound year holds of a substance fits 64 bits
 module _ (u : Setup) (y : Year) (h : SoundYear u y) (s : ℕ) (hs : s < 8) where
   pub total-fits : total (y .sums) s < 2 ^ 64
-  total-fits = omega (arith, h .bounded s hs, h .posts-few)
+  total-fits = omega (arith, h .posts-few, h .bounded s hs)
 
   pub stored-fits : stored u y s < 2 ^ 64
-  stored-fits = omega (arith, h .bounded s hs, h .posts-few)
+  stored-fits = omega (arith, h .posts-few, h .bounded s hs)
 
 pub report-is : (u : Setup) (y : Year) (s : ℕ) (due : Bool) (store : ℕ) (fate : Fate) (filed : Filing)
     → due ≡ dueIn u y s → store ≡ stored u y s → fate ≡ fateTo (y .sums) u s 8 → filed ≡ filingOf due (fate .headings)
