@@ -1,4 +1,4 @@
-// What a record asks: `P` is a post, `B` a block, `R` a report. A line tells what it answered.
+// What a record asks: `P` is a post, `B` a block, `R` a report, `S` a line of the stock takers' sheet. A line tells what it answered.
 ghost use mathlib.Core.Bool.{true, false};
 ghost use mathlib.Core.Path.{_≡_};
 ghost use lib.ListN.{length};
@@ -9,7 +9,9 @@ use book::answer::Answered;
 use book::block;
 use book::posts;
 use book::site::Book;
+use layout::bytes;
 use report::report::report_of;
+use stock::sheet::difference_of;
 use streams::output;
 use streams::output::Output;
 use streams::record::Record;
@@ -73,6 +75,30 @@ fn reported(b: Book, o: Output, place: u8) -> State
     )
 }
 
+fn compared(b: Book, o: Output, material: u8, grams: u64) -> State
+    requires { ⌜ Sound b ⌝ }
+    ensures { λ r. ⌜ Sound (r .book) ⌝ }
+{
+    told(
+        b,
+        line::stock(o, difference_of(b, material as usize, grams)),
+    )
+}
+
+// The calls that leave the book as it is, of so many bytes each.
+fn question(b: Book, o: Output, tag: u8, s: &[u8]) -> State
+    requires { ⌜ Sound b ⌝ }
+    ensures { λ r. ⌜ Sound (r .book) ⌝ }
+{
+    if tag == b'R' && s.len() == 1 {
+        return reported(b, o, bytes::byte_at(s, 0));
+    }
+    if tag == b'S' && s.len() == 9 {
+        return compared(b, o, bytes::byte_at(s, 0), bytes::le64(s, 1));
+    }
+    malformed(b, o)
+}
+
 fn call(b: Book, o: Output, tag: u8, s: &[u8]) -> State
     requires { ⌜ Sound b ⌝ }
     ensures { λ r. ⌜ Sound (r .book) ⌝ }
@@ -83,13 +109,7 @@ fn call(b: Book, o: Output, tag: u8, s: &[u8]) -> State
     if tag == b'B' {
         return answered(o, b"block ", block::take_block(b, s));
     }
-    if tag != b'R' {
-        return malformed(b, o);
-    }
-    if s.len() != 1 {
-        return malformed(b, o);
-    }
-    reported(b, o, s[0])
+    question(b, o, tag, s)
 }
 
 // What a record that was read answers; a whole one stands in the space.

@@ -5,6 +5,8 @@ use report::fate::Headings;
 use report::report::Filing;
 use report::report::Report;
 use report::report::Reported;
+use stock::sheet::Difference;
+use stock::sheet::magnitude;
 use streams::output::Output;
 use streams::output::number;
 use streams::output::text;
@@ -22,6 +24,24 @@ pub(crate) fn verdict(o: Output, v: Verdict) -> Output {
     match v {
         Verdict::Accepted => last(o, 0),
         Verdict::Declined(d) => last(o, d.number),
+    }
+}
+
+fn signed(o: Output, n: i64) -> Output {
+    if n > 0 {
+        return text(o, b"+");
+    }
+    if n < 0 {
+        return text(o, b"-");
+    }
+    o
+}
+
+pub(crate) fn stock(o: Output, answer: Difference) -> Output {
+    let o = text(o, b"stock ");
+    match answer {
+        Difference::Grams(n) => text(number(signed(o, n), magnitude(n)), b"\n"),
+        Difference::Declined(d) => last(text(o, b"declined "), d.number),
     }
 }
 

@@ -1,14 +1,16 @@
 // What was counted of a material, against the book's store.
 ghost use mathlib.Core.Path.{_≡_};
+ghost use Prim.Native.Nat.{_≤_};
+ghost use lib.IntN.{natAbs};
 ghost use Rattle.book.specs.Site.{Sound};
-ghost use Rattle.stock.specs.Sheet.{stockOf, answer};
+ghost use Rattle.stock.specs.Sheet.{difference, most, stockOf, answer};
 use amounts::decline;
 use amounts::decline::Decline;
 use book::site;
 use book::site::Book;
 
-// Above it no count is compared, and no store comes.
-pub const MOST: u64 = 8_000_000_000_000;
+// The grams that no count may exceed, and no store does.
+const MOST: u64 = 8_000_000_000_000;
 
 // Counted less store, in grams.
 pub enum Difference {
@@ -16,20 +18,37 @@ pub enum Difference {
     Declined(Decline),
 }
 
+// Two numbers of grams of which neither is above the most, so that both are signed ones too.
+fn less(grams: u64, store: u64) -> i64
+    requires { ⌜ (grams ≤ most) × (store ≤ most) ⌝ }
+    ensures { λ r. ⌜ r ≡ difference grams store ⌝ }
+{
+    grams as i64 - store as i64
+}
+
+// A difference without its sign.
+pub fn magnitude(grams: i64) -> u64
+    ensures { λ r. ⌜ r ≡ natAbs grams ⌝ }
+{
+    if grams < 0 {
+        return -(grams + 1) as u64 + 1;
+    }
+    grams as u64
+}
+
 // How much more than the book's store was counted of the material at a place, from 0.
 pub fn difference_of(b: Book, material: usize, grams: u64) -> Difference
     requires { ⌜ Sound b ⌝ }
     ensures { λ r. ⌜ answer r ≡ stockOf b material grams ⌝ }
 {
+    if grams > MOST {
+        return Difference::Declined(decline::STOCK_COUNT);
+    }
     let setup = site::setup_of(b);
     let o = setup.outline;
     if material >= o.materials as usize {
         return Difference::Declined(decline::STOCK_COUNT);
     }
-    if grams > MOST {
-        return Difference::Declined(decline::STOCK_COUNT);
-    }
     let year = site::year_of(b);
-    let store = year.store[material];
-    Difference::Grams(grams as i64 - store as i64)
+    Difference::Grams(less(grams, year.store[material]))
 }

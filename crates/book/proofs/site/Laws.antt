@@ -68,5 +68,6 @@ sound-before u v y h none =
   where
     nothing : openPosts (y .closed) (y .posts) ≡ 0
     nothing = omega (arith, open-posts-le (y .closed) (y .posts))
+
     empty : (m : ℕ) → m < 12 → getD (y .store) m 0 ≡ 0
     empty m l = omega (arith, h .stores m l, nothing)
