@@ -80,13 +80,13 @@ sorted n r e = let z = go rows all-sorted e in subst (λ (i : ℕ). SortedBy (so
 -- ---- a post
 
 -- a number of a move and one of a post by its kind that agree for each sort
-record Agrees (f : Move → ℕ) (g : Sort → Post → ℕ) : Type 0 where
-  of-stock : (p : Post) → f (Received (p .material) (p .quantity)) ≡ g stock p
-  of-issue : (p : Post) → f (Issued (p .material) (p .stage) (p .quantity)) ≡ g issued p
-  of-formed : (p : Post) → f (Brought held (p .stage) (p .substance) (p .quantity)) ≡ g formed p
-  of-found : (p : Post) → f (Brought offSite (p .stage) (p .substance) (p .quantity * p .content)) ≡ g found p
-  of-gone : (p : Post) (account n : ℕ) → f (Gone account (p .stage) (p .substance) n) ≡ g other p
-  of-close : (p : Post) → f Close ≡ g other p
+pub record Agrees (f : Move → ℕ) (g : Sort → Post → ℕ) : Type 0 where
+  pub of-stock : (p : Post) → f (Received (p .material) (p .quantity)) ≡ g stock p
+  pub of-issue : (p : Post) → f (Issued (p .material) (p .stage) (p .quantity)) ≡ g issued p
+  pub of-formed : (p : Post) → f (Brought held (p .stage) (p .substance) (p .quantity)) ≡ g formed p
+  pub of-found : (p : Post) → f (Brought offSite (p .stage) (p .substance) (p .quantity * p .content)) ≡ g found p
+  pub of-gone : (p : Post) (account n : ℕ) → f (Gone account (p .stage) (p .substance) n) ≡ g other p
+  pub of-close : (p : Post) → f Close ≡ g other p
 
 quantity-is : (m : Measure) (numbers : List ℕ) (p : Post) (n : ℕ) → m ≡ Quantity → measured m numbers p ≡ taken n → n ≡ p .quantity
 unfolding measured
@@ -129,7 +129,7 @@ module _ (f : Move → ℕ) (g : Sort → Post → ℕ) (a : Agrees f g) where
       let is : moveOf (r .does) p (z .0) ≡ said numbers s = cc in
       ap f (sym is) ∙ by-sort (sortOf (p .kind)) (r .measure) (r .does) numbers p (z .0) (z .1) (sorted (p .kind) r k)
 
-  of-posts : (numbers : List ℕ) (posts : List (List ℕ)) → Each (Read numbers) posts → sumOver f (map (said numbers) posts) ≡ sumPosts g posts
+  pub of-posts : (numbers : List ℕ) (posts : List (List ℕ)) → Each (Read numbers) posts → sumOver f (map (said numbers) posts) ≡ sumPosts g posts
   unfolding sumOver sumPosts
   of-posts numbers [] h = refl
   of-posts numbers (s ∷ posts) h = omega (arith, of-post numbers s (h .0), of-posts numbers posts (h .1))

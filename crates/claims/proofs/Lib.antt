@@ -2,10 +2,12 @@ pub mod Sums
 pub mod Flows
 pub mod State
 pub mod Setting
+pub mod Stores
 pub mod Tells
 pub mod Report
 pub mod Demand
 pub mod ByKind
+pub mod Stock
 pub mod Weighing
 pub mod Singles
 pub mod Figures

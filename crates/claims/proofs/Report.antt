@@ -272,5 +272,5 @@ pub as-told : (w : Standing) (b : Book) (s : ℕ) → Tells w b → s < b .setup
 as-told w b s h l = go (h .setting)
   where
     go : Setting w (b .setup) → (reportAt b s ≡ reportBy w s) × Weighed w s
-    go (unset e f z) = absurd (omega arith)
+    go (unset e f z _) = absurd (omega arith)
     go (is-set up) = (report-told w b h up s l, weighs w b h up s l)

@@ -11,7 +11,7 @@ use lib.ListN.{length, getD, drop, set}
 use lib.Seq.{getD-set-same, getD-set-other}
 use Rattle.layout.specs.Each.{putTo}
 use Rattle.amounts.specs.Decline.{valueOr}
-use Rattle.plant.specs.Setup.{noRates, numbersIn, classesIn, contentsIn, countedAll, setupOf, SoundSetup}
+use Rattle.plant.specs.Setup.{noRates, materialsIn, numbersIn, classesIn, contentsIn, countedAll, setupOf, SoundSetup}
 use Rattle.plant.specs.Stage.{secondOf, sewered, landfilled, waterRow, rateRow, withStage}
 use Rattle.plant.specs.declared.setup.Setup.{Setup}
 use Rattle.layout.proofs.Each.{put-at, put-other}
@@ -65,6 +65,7 @@ no-row s = sym (stage-laws.no-row (s * 17) [] (omega arith))
 pub record SetBy (t : List ℕ) (stages : List (List ℕ)) (u : Setup) : Type 0 where
   pub some : 1 ≤ u .outline .substances
   pub substances : u .outline .substances ≡ countOf t
+  pub materials : u .outline .materials ≡ materialsIn (bodyOf t)
   pub numbers : u .numbers ≡ numbersIn (bodyOf t)
   pub classes : u .classes ≡ classesIn (bodyOf t)
   pub counted : u .counted ≡ countedAll (classesIn (bodyOf t)) (contentsIn (bodyOf t))
@@ -80,6 +81,7 @@ set-by t l =
     record {
       some = l;
       substances = refl;
+      materials = refl;
       numbers = refl;
       classes = refl;
       counted = refl;
@@ -135,6 +137,7 @@ module _ (t x : List ℕ) (stages : List (List ℕ)) (u : Setup) (h : SetBy t st
       record {
         some = h .some;
         substances = h .substances;
+        materials = h .materials;
         numbers = h .numbers;
         classes = h .classes;
         counted = h .counted;

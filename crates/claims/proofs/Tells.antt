@@ -16,7 +16,7 @@ use Rattle.layout.specs.declared.holds.Holds.the-variants.{SetUp, Posts}
 use Rattle.layout.specs.declared.holds.SetupPart.the-variants.{Materials, Stage}
 use Rattle.layout.specs.Outline.{mayPost}
 use Rattle.layout.specs.Posts.{postIn}
-use Rattle.plant.specs.Setup.{setupOf, SoundSetup}
+use Rattle.plant.specs.Setup.{materialsIn, setupOf, SoundSetup}
 use Rattle.plant.specs.Stage.{withStage}
 use Rattle.layout.specs.declared.outline.Outline.{Outline}
 use Rattle.plant.specs.declared.setup.Setup.{Setup}
@@ -44,6 +44,8 @@ use Rattle.claims.specs.Demand as demand
 use Rattle.claims.specs.Standing.{Call, post, block, answerTo, run, keep, accepted, Standing, nothing, withPosts, withBlock, stand, stood, standing}
 use Rattle.claims.specs.Standing.{substancesOf, numbersOf, countedIn, movesOf, sumOver}
 use Rattle.claims.proofs.Setting.{SetBy, set-by, set-next}
+use Rattle.claims.specs.Stock.{materialsOf}
+use Rattle.claims.proofs.Stores.{comes, goes, store-next}
 use Rattle.claims.proofs.State.{State, state-none, none-open, state-next}
 use Rattle.claims.proofs.Sums.{Each, each-last, sum-nil, sum-last, map-last}
 
@@ -51,7 +53,7 @@ use Rattle.claims.proofs.Sums.{Each, each-last, sum-nil, sum-last, map-
 
 -- no set-up block yet, or one and then stages
 pub data Setting (w : Standing) (u : Setup) : Type 0 where
-  unset : w .first ≡ [] → w .stages ≡ [] → u .outline .substances ≡ 0 → Setting w u
+  unset : w .first ≡ [] → w .stages ≡ [] → u .outline .substances ≡ 0 → u .outline .materials ≡ 0 → Setting w u
   is-set : SetBy (w .first) (w .stages) u → Setting w u
 
 -- the bytes of a post say a move by the row of their kind
@@ -64,6 +66,7 @@ pub record Tells (w : Standing) (b : Book) : Type 0 where
   pub count : b .year .posts ≡ length (w .posts)
   pub entered : (s : ℕ) → s < 8 → inYear (b .setup) (b .year) s ≡ demand.entered w s
   pub handled : (s : ℕ) → s < 8 → getD (b .year .handled) s 0 ≡ demand.handled w s
+  pub store : (m : ℕ) → m < 12 → getD (b .year .store) m 0 + sumOver (goes m) (movesOf w) ≡ sumOver (comes m) (movesOf w)
   pub named : Each Named (movesOf w)
   pub read : Each (Read (numbersOf w)) (w .posts)
   pub state : State (countedIn w) (b .setup .«to_water») (movesOf w) (b .year .sums) (b .year .closed)
@@ -73,8 +76,16 @@ pub substances-are : (w : Standing) (b : Book) → Tells w b → b .setup .outli
 substances-are w b h = go (h .setting)
   where
     go : Setting w (b .setup) → b .setup .outline .substances ≡ substancesOf w
-    go (unset e f z) = z ∙ sym (ap countOf e)
+    go (unset e f z _) = z ∙ sym (ap countOf e)
     go (is-set f) = f .substances
+
+-- and so are its materials
+pub materials-are : (w : Standing) (b : Book) → Tells w b → b .setup .outline .materials ≡ materialsOf w
+materials-are w b h = go (h .setting)
+  where
+    go : Setting w (b .setup) → b .setup .outline .materials ≡ materialsOf w
+    go (unset e f _ z) = z ∙ sym (ap (λ (s : List ℕ). materialsIn (bodyOf s)) e)
+    go (is-set f) = f .materials
 
 -- ---- a book without posts, as made and while it is set up
 
@@ -95,6 +106,9 @@ module _ (w : Standing) (u : Setup) (y : Year) (blocks : ℕ) (h : SoundSetup u)
   in-none : (s : ℕ) → s < 8 → inYear u y s ≡ 0
   in-none s hs = zero-of (inYear u y s) (openPosts (y .closed) (y .posts)) (g .bounded s hs) (omega (arith, none, open-posts-le (y .closed) (y .posts)))
 
+  no-grams : (m : ℕ) → m < 12 → getD (y .store) m 0 ≡ 0
+  no-grams m hm = omega (arith, none, open-posts-le (y .closed) (y .posts), g .stores m hm)
+
   tells-empty : y .closed ≡ false → Setting w u → Tells w (bookWith u y blocks)
   tells-empty o setting =
       record {
@@ -103,6 +117,7 @@ module _ (w : Standing) (u : Setup) (y : Year) (blocks : ℕ) (h : SoundSetup u)
         count = none ∙ sym (ap length no-posts);
         entered = λ s hs. in-none s hs ∙ sym (nothing-in (enters (countedIn w) s));
         handled = λ s hs. omega (arith, g .weighed s hs, in-none s hs, nothing-in (handles (countedIn w) s));
+        store = λ m hm. omega (arith, no-grams m hm, nothing-in (goes m), nothing-in (comes m));
         named = subst (Each Named) (sym no-moves) tt;
         read = subst (Each (Read (numbersOf w))) (sym no-posts) tt;
         state =
@@ -112,7 +127,7 @@ module _ (w : Standing) (u : Setup) (y : Year) (blocks : ℕ) (h : SoundSetup u)
       }
 
 pub tells-fresh : Tells nothing freshBook
-tells-fresh = tells-empty nothing (freshBook .setup) (freshBook .year) 0 (sound-fresh .setup) (sound-fresh .year) refl refl refl (unset refl refl refl)
+tells-fresh = tells-empty nothing (freshBook .setup) (freshBook .year) 0 (sound-fresh .setup) (sound-fresh .year) refl refl refl (unset refl refl refl refl)
 
 -- ---- a post
 
@@ -128,7 +143,7 @@ post-later o e =
 
 -- it is set up by the bytes that stand
 was-set : (w : Standing) (u : Setup) → 1 ≤ u .outline .substances → Setting w u → SetBy (w .first) (w .stages) u
-was-set w u l (unset e f z) = absurd (omega arith)
+was-set w u l (unset e f z _) = absurd (omega arith)
 was-set w u l (is-set f) = f
 
 module _ (w : Standing) (b : Book) (z : Year) (s : List ℕ) (blocks : ℕ) (h : Tells w b) (p : Posted (b .setup) (b .year) s z) where
@@ -173,6 +188,16 @@ module _ (w : Standing) (b : Book) (z : Year) (s : List ℕ) (blocks : ℕ) (h :
         count = omega (arith, step .one-more, h .count, length-append (w .posts) (s ∷ []));
         entered = λ i hi. omega (arith, step .entered i hi, h .entered i hi, sum-next (enters (countedIn w) i), ap (λ (l : List ℕ). enters l i m) counted-is);
         handled = λ i hi. omega (arith, step .handled i hi, h .handled i hi, sum-next (handles (countedIn w) i), ap (λ (l : List ℕ). handles l i m) counted-is);
+        store =
+            λ i hi.
+            omega (
+              arith,
+              h .store i hi,
+              store-next (y .store) (y .sums) i m (h .sound .year .store-long) (room .fits) (p .there),
+              ap (λ (x : Year). getD (x .store) i 0) (p .year),
+              sum-next (goes i),
+              sum-next (comes i),
+            );
         named = subst (Each Named) (sym moves-next) (each-last Named (movesOf w) m (h .named) is-named);
         read = each-last (Read (numbersOf w)) (w .posts) s (h .read) was-read;
         state =
@@ -200,6 +225,7 @@ tells-many w b z f zero blocks h e =
       count = h .count;
       entered = h .entered;
       handled = h .handled;
+      store = h .store;
       named = h .named;
       read = h .read;
       state = h .state;
@@ -230,7 +256,7 @@ module _ (w : Standing) (b : Book) (h : Tells w b) (none : b .year .posts ≡ 0)
 
 -- the stages that stood before a kind 1 block
 no-stages : (w : Standing) (u : Setup) → u .outline .substances ≡ 0 → Setting w u → w .stages ≡ []
-no-stages w u z (unset e f g) = f
+no-stages w u z (unset e f g _) = f
 no-stages w u z (is-set f) = absurd (omega (arith, f .some))
 
 -- what stands after a block, by what it holds

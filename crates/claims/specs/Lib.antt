@@ -6,3 +6,4 @@ pub mod Figures
 pub mod Written
 pub mod Reread
 pub mod ByKind
+pub mod Stock

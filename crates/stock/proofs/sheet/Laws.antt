@@ -1,6 +1,7 @@
 -- What the sheet's difference is: by its cases, against the store, and how large it gets. Assumes nothing.
 use mathlib.Core.Path.{_≡_, refl, sym, ap, ap₂, subst, _∙_}
-use mathlib.Core.Bool.{Bool, true, false, true≢false, cond}
+use mathlib.Core.Bool.{Bool, true, false, true≢false, cond, _&&_}
+use mathlib.Core.List.{[], _∷_}
 use Prim.Native.Nat.{ℕ, zero, suc, _+_, _-_, _*_, _^_, _≤_, _<_}
 use native.Mathlib.Omega.{arith}
 use borrow.Author.Tests.{ltb-true, ltb-false, lt-ltb, le-ltb, leb-true, le-leb, lt-leb}
@@ -11,7 +12,7 @@ use lib.Signed.{ltZ, leZ-yes, nonNeg}
 use mir.Syntax.{w64}
 use mir.Val.{Fits, SFits, toZ, ofZ}
 use mir.Facts.{toZ-pos, toZ-ofZ}
-use Rattle.amounts.specs.Decline.{taken, declined, checked, stockCount}
+use Rattle.amounts.specs.Decline.{taken, declined, check, checked, stockCount}
 use Rattle.amounts.proofs.decline.Laws.{one-taken}
 use Rattle.layout.proofs.Each.{and-true}
 use Rattle.plant.specs.declared.setup.Setup.{Setup}
@@ -199,3 +200,15 @@ answers-within b material grams d h e =
     either-way d
     (subst (λ (z : ℤ). natAbs z ≤ most) (sym (t .1))
     (difference-small grams (storeIn b material) (leb-true grams most (both .0)) (store-few b material h (omega (arith, l, h .setup .materials-few)))))
+
+-- a book's answer by its number of materials and, where the material is one of them, its store
+pub same-sheet : (b : Book) (materials : ℕ) (storeOf : ℕ → ℕ) (material grams : ℕ) → b .setup .outline .materials ≡ materials
+    → (material < materials → storeIn b material ≡ storeOf material) → stockOf b material grams ≡ stockFrom materials storeOf material grams
+unfolding stockOf stockFrom checked
+same-sheet b materials storeOf material grams e f = rw e (go (leb grams most) (ltb material materials) refl)
+  where
+    go : (x y : Bool) → ltb material materials ≡ y
+        → checked (check (x && y) stockCount ∷ []) (difference grams (storeIn b material)) ≡ checked (check (x && y) stockCount ∷ []) (difference grams (storeOf material))
+    go true true t = ap (λ n. taken (difference grams n)) (f (ltb-true material materials t))
+    go true false t = refl
+    go false y t = refl
