@@ -11,6 +11,7 @@ use kinds::fields::Post;
 use plant::setup::check_setup;
 use plant::stage::check_stage;
 use report::report::report_of;
+use stock::sheet::difference_of;
 
 pub(crate) fn give(b: Book, p: Post) -> Book
     requires { ⌜ Sound b ⌝ }
@@ -111,6 +112,13 @@ pub(crate) fn report(b: Book, place: usize)
     requires { ⌜ Sound b ⌝ }
 {
     line::report(place, report_of(b, place));
+}
+
+// The grams counted of a material.
+pub(crate) fn stock(b: Book, material: usize, grams: u64)
+    requires { ⌜ Sound b ⌝ }
+{
+    line::stock(material, grams, difference_of(b, material, grams));
 }
 
 // Two substances.

@@ -13,7 +13,7 @@ const ONE: u64 = 0x3ff0000000000000;
 
 const BILLION: u64 = 0x41cdcd6500000000;
 
-fn repeated(b: Book, p: Post, times: u32) -> Book
+pub(crate) fn repeated(b: Book, p: Post, times: u32) -> Book
     requires { ⌜ Sound b ⌝ }
     ensures { λ r. ⌜ Sound r ⌝ }
 {

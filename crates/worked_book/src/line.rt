@@ -7,6 +7,8 @@ use report::fate::Headings;
 use report::report::Filing;
 use report::report::Report;
 use report::report::Reported;
+use stock::sheet::Difference;
+use stock::sheet::magnitude;
 
 pub(crate) fn text(bytes: &[u8]) {
     io::write_all(STDOUT_FILENO, bytes);
@@ -33,6 +35,32 @@ pub(crate) fn verdict(v: Verdict) {
     match v {
         Verdict::Accepted => text(b": accepted\n"),
         Verdict::Declined(d) => declined(d),
+    }
+}
+
+fn sign(n: i64) {
+    if n > 0 {
+        text(b"+");
+    } else if n < 0 {
+        text(b"-");
+    }
+}
+
+fn difference(n: i64) {
+    text(b": ");
+    sign(n);
+    io::print_decimal(STDOUT_FILENO, magnitude(n));
+    text(b"\n");
+}
+
+// The material, the grams counted and the difference.
+pub(crate) fn stock(material: usize, grams: u64, answer: Difference) {
+    text(b"stock");
+    number(material as u64);
+    number(grams);
+    match answer {
+        Difference::Grams(n) => difference(n),
+        Difference::Declined(d) => declined(d),
     }
 }
 

@@ -1,5 +1,6 @@
 // A site's book through the library's calls: what each call answers and what the reports show, a line for each.
 mod bodies;
+mod counts;
 mod declines;
 mod desk;
 mod fields;
@@ -49,4 +50,6 @@ fn main() {
     slips::split_once();
     slips::thresholds();
     limit::reached();
+    counts::counted();
+    counts::full();
 }
