@@ -30,8 +30,9 @@ extern "C" {
  * Why a call is declined, in checking order. The status of a calculation
  * (prtr_counted, prtr_split, prtr_due, prtr_loss) is 0 or one of 6 to 9; that
  * of prtr_write is 0, 4, 6, 7, 13 or PRTR_MALFORMED; 1 to 11 stand in the
- * "refused" line of prtr_filing; 12 comes from no function here. prtr_case,
- * prtr_step and prtr_figure decline nothing.
+ * "refused" line of prtr_filing; 12 and 14 are of a book's own calls, a report
+ * and a stock count, and come from no function here. prtr_case, prtr_step and
+ * prtr_figure decline nothing.
  */
 #define PRTR_NOT_A_BLOCK 1   /* a block isn't 512 bytes or lacks "PRTR" */
 #define PRTR_CHECK_SUM 2     /* a check sum differs */
@@ -46,6 +47,7 @@ extern "C" {
 #define PRTR_SHORT 11        /* a store or holding is less than what leaves it */
 #define PRTR_NO_SUBSTANCE 12 /* a report names a substance that the book hasn't */
 #define PRTR_NO_ROOM 13      /* a block that begins finds fewer than 512 bytes left, or 65,536 blocks written */
+#define PRTR_STOCK_COUNT 14  /* a stock count exceeds 8 x 10^12 g, or its material isn't in the book */
 
 /* No decline: a record of prtr_write is cut short or has another tag than S, P and E. */
 #define PRTR_MALFORMED 255

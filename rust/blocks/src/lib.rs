@@ -15,5 +15,5 @@ pub use block::{
 };
 pub use journal::{journal, posted, posts_block, tens, MOST_POSTS};
 pub use post::{with_floats, Holding, Post, POST};
-pub use records::{record, set_up, MOST_IN_RECORD};
+pub use records::{record, set_up, stock, MOST_IN_RECORD};
 pub use setup::{plan, Pair, Site, Stage};

@@ -11,6 +11,11 @@ pub fn record(records: &mut Vec<u8>, tag: u8, bytes: &[u8]) {
     records.extend(bytes);
 }
 
+/// The bytes of a stock count: the material's place and the counted grams.
+pub fn stock(material: u8, counted: u64) -> Vec<u8> {
+    [&[material], &counted.to_le_bytes()[..]].concat()
+}
+
 /// The bytes of a set-up record: kind, count and body.
 pub fn set_up(kind: u8, count: u8, body: &[u8]) -> Vec<u8> {
     [&[kind, count], body].concat()

@@ -53,6 +53,11 @@ impl Book {
         self.set_up.plan.substances
     }
 
+    /// The materials of that block, and none before it either.
+    pub fn materials(&self) -> usize {
+        self.set_up.plan.materials
+    }
+
     /// Blocks accepted so far. It stays small: nine of set-up, and a post at least in each other.
     pub fn blocks(&self) -> u16 {
         self.blocks

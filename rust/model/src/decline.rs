@@ -28,3 +28,5 @@ pub(crate) const NO_SUBSTANCE: u8 = 12;
 /// Document 02 (a): "a set-up block or a post that begins a block finds fewer than 512 bytes left
 /// or 65,536 blocks written".
 pub(crate) const NO_ROOM: u8 = 13;
+/// Document 02 (d): "the counted grams exceed 8×10^12 or the material isn't in the book".
+pub(crate) const STOCK_COUNT: u8 = 14;

@@ -13,7 +13,7 @@ use std::fmt;
 ///     assert_eq!(Decline::from_number(decline.number()), Some(decline));
 /// }
 /// assert_eq!(Decline::from_number(0), None);
-/// assert_eq!(Decline::from_number(14), None);
+/// assert_eq!(Decline::from_number(15), None);
 /// ```
 #[derive(Clone, Copy, Debug, PartialEq, Eq, PartialOrd, Ord, Hash)]
 #[repr(u8)]
@@ -44,6 +44,8 @@ pub enum Decline {
     NoSubstance = 12,
     /// A set-up block, or a post that begins a block, finds fewer than 512 bytes left or 65,536 blocks written.
     NoRoom = 13,
+    /// The grams of a stock count exceed 8×10^12, or the book hasn't the material; no function of this crate answers it.
+    StockCount = 14,
 }
 
 // `from_number` finds a decline by its place.
@@ -57,7 +59,7 @@ const _: () = {
 
 impl Decline {
     /// Every decline, in checking order.
-    pub const ALL: [Decline; 13] = [
+    pub const ALL: [Decline; 14] = [
         Decline::NotABlock,
         Decline::CheckSum,
         Decline::NotNext,
@@ -71,9 +73,10 @@ impl Decline {
         Decline::Short,
         Decline::NoSubstance,
         Decline::NoRoom,
+        Decline::StockCount,
     ];
 
-    /// The papers' number, 1 to 13.
+    /// The papers' number, 1 to 14.
     pub const fn number(self) -> u8 {
         self as u8
     }
@@ -100,6 +103,9 @@ impl Decline {
             Decline::Short => "a store or holding is less than what leaves it",
             Decline::NoSubstance => "the book hasn't this substance",
             Decline::NoRoom => "there is no room for a block",
+            Decline::StockCount => {
+                "more than 8 x 10^12 g are counted, or the book hasn't this material"
+            }
         }
     }
 }

@@ -69,7 +69,7 @@ mod tests {
     #[test]
     fn no_other_line_is_read() {
         for rest in [
-            "", "\n", " 1 1", " 1\n", " 1 14\n", " 1 0\n", " 1 1 1\n", " x 1\n",
+            "", "\n", " 1 1", " 1\n", " 1 15\n", " 1 0\n", " 1 1 1\n", " x 1\n",
         ] {
             assert_eq!(place_and_number(rest), None, "{rest:?}");
         }
@@ -78,6 +78,6 @@ mod tests {
     #[test]
     #[should_panic(expected = "which is no line of a refused journal")]
     fn an_unknown_number_stops() {
-        read("refused 1 14\n");
+        read("refused 1 15\n");
     }
 }

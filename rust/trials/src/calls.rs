@@ -3,10 +3,15 @@
 use std::fmt::Write;
 use std::ops::AddAssign;
 
-use blocks::{record, BLOCK, BODY, POST};
+use blocks::{record, stock, BLOCK, BODY, POST};
 use model::{Book, Report};
 
 use crate::case::caught;
+use crate::rng::Rng;
+use crate::taker::{Counted, Taker};
+
+/// The numbers from 0, which is no decline, to 14.
+const NUMBERS: usize = 15;
 
 /// How many calls of each kind were made, and how they were declined.
 #[derive(Clone, Debug, Default)]
@@ -20,9 +25,11 @@ pub struct Counts {
     /// Reports.
     pub reports: u64,
     /// Calls declined by each number.
-    pub declines: [u64; 13],
+    pub declines: [u64; NUMBERS],
     /// The same of calls with a found post in them, those that were taken at 0.
-    pub found: [u64; 13],
+    pub found: [u64; NUMBERS],
+    /// Stock counts by their answers, as `Counted` numbers them.
+    pub stock: [u64; Counted::ALL.len()],
 }
 
 impl AddAssign<&Counts> for Counts {
@@ -31,10 +38,16 @@ impl AddAssign<&Counts> for Counts {
         self.posts += other.posts;
         self.blocks += other.blocks;
         self.reports += other.reports;
-        let counts = self.declines.iter_mut().chain(&mut self.found);
-        for (count, more) in counts.zip(other.declines.into_iter().chain(other.found)) {
-            *count += more;
-        }
+        add(&mut self.declines, &other.declines);
+        add(&mut self.found, &other.found);
+        add(&mut self.stock, &other.stock);
+    }
+}
+
+/// Adds each count to the one at its place.
+fn add(counts: &mut [u64], more: &[u64]) {
+    for (count, more) in counts.iter_mut().zip(more) {
+        *count += more;
     }
 }
 
@@ -47,11 +60,12 @@ pub struct List {
     /// The calls so far.
     pub counts: Counts,
     book: Book,
+    taker: Taker,
 }
 
 impl List {
-    /// No call.
-    pub fn new() -> List {
+    /// No call yet; those to come are drawn from `rng`, and the stock counts beside it.
+    pub fn new(rng: &Rng) -> List {
         List {
             records: Vec::new(),
             lines: String::new(),
@@ -60,6 +74,7 @@ impl List {
                 ..Counts::default()
             },
             book: Book::new(),
+            taker: Taker::beside(rng),
         }
     }
 
@@ -72,7 +87,7 @@ impl List {
     pub fn post(&mut self, bytes: &[u8]) {
         self.counts.posts += 1;
         let ask = |book: &mut Book| book.post(bytes).map(|()| "0".into());
-        let number = self.call(b'P', bytes, "post", ask);
+        let number = self.call(b'P', bytes, ["post"; 2], ask);
         self.count_found(is_found(bytes), number);
     }
 
@@ -80,7 +95,7 @@ impl List {
     pub fn block(&mut self, bytes: &[u8]) {
         self.counts.blocks += 1;
         let ask = |book: &mut Book| book.block(bytes).map(|()| "0".into());
-        let number = self.call(b'B', bytes, "block", ask);
+        let number = self.call(b'B', bytes, ["block"; 2], ask);
         self.count_found(has_found(bytes), number);
     }
 
@@ -88,7 +103,8 @@ impl List {
     pub fn report(&mut self, place: u8) {
         self.counts.reports += 1;
         let ask = |book: &mut Book| book.report(place.into()).map(|report| fields(&report));
-        self.call(b'R', &[place], &format!("report {place}"), ask);
+        let name = format!("report {place}");
+        self.call(b'R', &[place], [&name; 2], ask);
     }
 
     /// A report of each substance, and of the place behind the last.
@@ -96,22 +112,51 @@ impl List {
         (0..=self.book.substances() as u8).for_each(|place| self.report(place));
     }
 
-    /// Makes a call, and gives the decline's number or 0.
+    /// A stock count of the material at a place.
+    pub fn stock(&mut self, material: u8, counted: u64) {
+        let mut difference = 0;
+        let ask = |book: &mut Book| {
+            difference = book.stock(material.into(), counted)?;
+            Ok(signed(difference))
+        };
+        let names = ["stock", "stock declined"];
+        self.call(b'S', &stock(material, counted), names, ask);
+        let has = usize::from(material) < self.book.materials();
+        self.counts.stock[Counted::of(has, counted, difference) as usize] += 1;
+    }
+
+    /// Perhaps some stock counts.
+    pub fn perhaps_stock(&mut self) {
+        for _ in 0..self.taker.often() {
+            let (material, counted) = self.taker.any(&self.book);
+            self.stock(material, counted);
+        }
+    }
+
+    /// A stock count of each material, and of the place behind the last.
+    pub fn sheet(&mut self) {
+        for material in 0..=self.book.materials() as u8 {
+            let counted = self.taker.grams(&self.book, material);
+            self.stock(material, counted);
+        }
+    }
+
+    /// Makes a call, and gives the decline's number or 0; the names begin the line of an answer and of a decline.
     fn call(
         &mut self,
         tag: u8,
         bytes: &[u8],
-        name: &str,
+        [name, declined]: [&str; 2],
         ask: impl FnOnce(&mut Book) -> Result<String, u8>,
     ) -> usize {
         record(&mut self.records, tag, bytes);
-        let (answer, number) = match caught(|| ask(&mut self.book)) {
-            Ok(Ok(fields)) => (fields, 0),
-            Ok(Err(number)) => (number.to_string(), usize::from(number)),
-            Err(words) => (format!("the model panicked: {words}"), 0),
+        let (line, number) = match caught(|| ask(&mut self.book)) {
+            Ok(Ok(fields)) => (format!("{name} {fields}"), 0),
+            Ok(Err(number)) => (format!("{declined} {number}"), usize::from(number)),
+            Err(words) => (format!("{name}: the model panicked: {words}"), 0),
         };
         self.counts.declines[number] += u64::from(number > 0);
-        writeln!(self.lines, "{name} {answer}").expect("a string takes all");
+        writeln!(self.lines, "{line}").expect("a string takes all");
         number
     }
 
@@ -130,9 +175,11 @@ fn has_found(block: &[u8]) -> bool {
     block.len() == BLOCK && block[4] == 3 && block[BODY..].chunks_exact(POST).any(is_found)
 }
 
-impl Default for List {
-    fn default() -> List {
-        List::new()
+/// A difference with its sign, which nought hasn't.
+fn signed(difference: i64) -> String {
+    match difference {
+        0 => "0".into(),
+        _ => format!("{difference:+}"),
     }
 }
 

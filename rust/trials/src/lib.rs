@@ -15,6 +15,7 @@ pub mod lists;
 pub mod program;
 pub mod rng;
 pub mod site;
+pub mod taker;
 pub mod trial;
 pub mod writes;
 pub mod year;

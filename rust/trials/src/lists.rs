@@ -1,4 +1,4 @@
-//! Lists of calls, good and faulty, with reports between them.
+//! Lists of calls, good and faulty, with reports and stock counts between them.
 
 use blocks::{block, frame, posts_block, Block, Post, BLOCK, BODY, MOST_POSTS, POST};
 
@@ -16,11 +16,12 @@ const AFTER_FULL: usize = 12;
 /// A year in blocks and single posts, with faulty calls before some of them and behind the close.
 pub fn mixed(rng: &mut Rng) -> List {
     let year = Year::any(rng);
-    let mut list = List::new();
+    let mut list = List::new(rng);
+    list.perhaps_stock();
     for block in year.site.blocks() {
         perhaps_faulty(rng, &mut list, &year, &block);
         list.block(&block);
-        perhaps_reports(rng, &mut list);
+        perhaps_asked(rng, &mut list);
     }
     let mut rest = &year.posts[..];
     for &size in &year.sizes {
@@ -34,18 +35,21 @@ pub fn mixed(rng: &mut Rng) -> List {
         perhaps_faulty(rng, &mut list, &year, block);
     }
     list.reports();
+    list.sheet();
     list
 }
 
 /// A damaged journal that goes on behind each refused block.
 pub fn damaged_journal(rng: &mut Rng) -> List {
     let year = Year::any(rng);
-    let mut list = List::new();
+    let mut list = List::new(rng);
+    list.perhaps_stock();
     for block in damaged(rng, &year).chunks(BLOCK) {
         list.block(block);
-        perhaps_reports(rng, &mut list);
+        perhaps_asked(rng, &mut list);
     }
     list.reports();
+    list.sheet();
     list
 }
 
@@ -53,7 +57,7 @@ pub fn damaged_journal(rng: &mut Rng) -> List {
 pub fn full(rng: &mut Rng) -> List {
     let site = site::any(rng);
     let year = Year::open(rng, site, ONE_SHORT);
-    let mut list = List::new();
+    let mut list = List::new(rng);
     for block in year.blocks() {
         list.block(&block);
     }
@@ -62,31 +66,35 @@ pub fn full(rng: &mut Rng) -> List {
         give(rng, &mut list, &posts);
     }
     list.reports();
+    list.sheet();
     list
 }
 
-/// Posts in a block or one by one, and perhaps reports.
+/// Posts in a block or one by one, and perhaps reports and stock counts.
 fn give(rng: &mut Rng, list: &mut List, posts: &[Post]) {
     if !rng.once_in(3) {
         list.block(&posts_block(list.next_number(), posts));
-        return perhaps_reports(rng, list);
+        return perhaps_asked(rng, list);
     }
     for post in posts {
         list.post(&post.bytes());
-        perhaps_reports(rng, list);
+        perhaps_asked(rng, list);
     }
 }
 
-fn perhaps_reports(rng: &mut Rng, list: &mut List) {
+/// Perhaps reports and stock counts.
+fn perhaps_asked(rng: &mut Rng, list: &mut List) {
     if rng.once_in(4) {
         list.reports();
     }
     if rng.once_in(100) {
         list.report(rng.word() as u8);
     }
+    list.perhaps_stock();
 }
 
-/// Perhaps a call that is most likely refused, made of a block that isn't, or a found post, and reports behind it.
+/// Perhaps a call that is most likely refused, made of a block that isn't, or a found post, and reports and stock counts
+/// behind it.
 fn perhaps_faulty(rng: &mut Rng, list: &mut List, year: &Year, block: &Block) {
     match rng.below(14) {
         0 | 1 => list.block(&faulty(rng, block)),
@@ -108,6 +116,7 @@ fn perhaps_faulty(rng: &mut Rng, list: &mut List, year: &Year, block: &Block) {
     if rng.once_in(2) {
         list.reports();
     }
+    list.perhaps_stock();
 }
 
 /// The block with one fault.

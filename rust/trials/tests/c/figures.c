@@ -27,6 +27,7 @@ static const char *name(uint8_t status)
     case PRTR_SHORT: return "PRTR_SHORT";
     case PRTR_NO_SUBSTANCE: return "PRTR_NO_SUBSTANCE";
     case PRTR_NO_ROOM: return "PRTR_NO_ROOM";
+    case PRTR_STOCK_COUNT: return "PRTR_STOCK_COUNT";
     case PRTR_MALFORMED: return "PRTR_MALFORMED";
     default: return "unknown";
     }
@@ -34,7 +35,7 @@ static const char *name(uint8_t status)
 
 static void names(void)
 {
-    for (uint8_t status = 0; status < 15; status++)
+    for (uint8_t status = 0; status < 16; status++)
         printf("status %u %s\n", status, name(status));
     printf("status 255 %s\n", name(255));
 }
