@@ -1,4 +1,4 @@
--- What the sheet's difference is: by its cases, against the store, and how large it gets. Assumes nothing.
+-- What the sheet's difference is: against the store, how large it gets, and as the machine has it. Assumes nothing.
 use mathlib.Core.Path.{_≡_, refl, sym, ap, ap₂, subst, _∙_}
 use mathlib.Core.Bool.{Bool, true, false, true≢false, cond, _&&_}
 use mathlib.Core.List.{[], _∷_}
@@ -6,7 +6,7 @@ use Prim.Native.Nat.{ℕ, zero, suc, _+_, _-_, _*_, _^_, _≤_, _<_}
 use native.Mathlib.Omega.{arith}
 use borrow.Author.Tests.{ltb-true, ltb-false, lt-ltb, le-ltb, leb-true, le-leb, lt-leb}
 use lib.Dec.{T, ltb, leb, le→leb}
-use lib.IntN.{ℤ, pos, negsuc, sucℤ, natAbs, _+ℤ_, _-ℤ_, +ℤ-comm, +ℤ-idl, +ℤ-one, +ℤ-negℤ-cancel}
+use lib.IntN.{ℤ, pos, negsuc, pos-ne-negsuc, sucℤ, natAbs, _+ℤ_, _-ℤ_, +ℤ-comm, +ℤ-idl, +ℤ-one, +ℤ-negℤ-cancel}
 use lib.ListN.{getD}
 use lib.Signed.{ltZ, leZ-yes, nonNeg}
 use mir.Syntax.{w64}
@@ -21,36 +21,32 @@ use Rattle.book.specs.declared.site.Book.{Book}
 use Rattle.book.specs.declared.site.Year.{Year}
 use Rattle.stock.specs.Sheet.{plus, minus, nought, difference, most, mayCount, stockFrom, storeIn, stockOf, StoreAndDifference, EitherWay, AnswersWithin}
 
--- ---- a difference, by its cases
-
-by-test : (t : Bool) (x y : ℤ) (P : ℤ → Type 0) → (t ≡ true → P x) → (t ≡ false → P y) → P (cond t x y)
-by-test true x y P f g = f refl
-by-test false x y P f g = g refl
-
-pub by-cases : (P : ℤ → Type 0) (grams store : ℕ) → (store < grams → P (plus (grams - store))) → (grams < store → P (minus (store - grams))) → (grams ≡ store → P nought)
-    → P (difference grams store)
-unfolding difference
-by-cases P grams store more less same =
-    by-test (ltb store grams) (plus (grams - store)) (cond (ltb grams store) (minus (store - grams)) nought) P
-    (λ t. more (ltb-true store grams t))
-    (λ t.
-    by-test (ltb grams store) (minus (store - grams)) nought P
-    (λ q. less (ltb-true grams store q))
-    (λ q. same (omega (arith, ltb-false store grams t, ltb-false grams store q))))
-
 -- ---- against the store
 
+by-test : {x y : ℤ} (t : Bool) (P : ℤ → Type 0) → (t ≡ true → P x) → (t ≡ false → P y) → P (cond t x y)
+by-test true P f g = f refl
+by-test false P f g = g refl
+
 pub store-and-difference : StoreAndDifference
+unfolding difference
 store-and-difference grams store =
-    by-cases (λ d. pos store +ℤ d ≡ pos grams) grams store
-    (λ h. ap pos (omega arith))
-    (λ h.
-    let k = store - grams in
-    ap (λ n. pos n +ℤ minus k) (above h) ∙ +ℤ-negℤ-cancel (pos grams) (pos k))
-    (λ e. ap pos (omega arith))
+    by-test (ltb store grams) Balances (λ t. more (ltb-true store grams t)) (λ t.
+    by-test (ltb grams store) Balances (λ q. less (ltb-true grams store q)) (λ q. same (ltb-false store grams t) (ltb-false grams store q)))
   where
+    Balances : ℤ → Type 0
+    Balances d = pos store +ℤ d ≡ pos grams
+
+    more : store < grams → pos store +ℤ plus (grams - store) ≡ pos grams
+    more h = ap pos (omega arith)
+
     above : grams < store → store ≡ grams + (store - grams)
     above h = omega arith
+
+    less : grams < store → pos store +ℤ minus (store - grams) ≡ pos grams
+    less h = ap (λ n. pos n +ℤ minus (store - grams)) (above h) ∙ +ℤ-negℤ-cancel (pos grams) (pos (store - grams))
+
+    same : grams ≤ store → store ≤ grams → pos store +ℤ nought ≡ pos grams
+    same h k = ap pos (omega arith)
 
 -- what was counted less the store
 less-is : (grams store : ℕ) → pos grams -ℤ pos store ≡ difference grams store
@@ -60,17 +56,17 @@ less-is grams store =
 
 -- ---- how large
 
-abs-minus : (n : ℕ) → natAbs (minus n) ≡ n
-abs-minus zero = refl
-abs-minus (suc n) = refl
+-- what is between two numbers is at most as large as the larger
+between : (grams store : ℕ) (d : ℤ) → pos store +ℤ d ≡ pos grams → grams ≤ most → store ≤ most → natAbs d ≤ most
+between grams store (pos n) e hg hs = omega (arith, ap natAbs e)
+between grams store (negsuc n) e hg hs = go (ltb store (suc n)) refl
+  where
+    go : (t : Bool) → ltb store (suc n) ≡ t → suc n ≤ most
+    go true t = absurd (pos-ne-negsuc grams (suc n - suc store) (sym (subst (λ (x : Bool). cond x (negsuc (suc n - suc store)) (pos (store - suc n)) ≡ pos grams) t e)))
+    go false t = omega (arith, ltb-false store (suc n) t)
 
 difference-small : (grams store : ℕ) → grams ≤ most → store ≤ most → natAbs (difference grams store) ≤ most
-difference-small grams store hg hs =
-    by-cases (λ d. natAbs d ≤ most) grams store (λ h. omega arith) (λ h. omega (arith, abs-minus (store - grams))) (λ e. omega arith)
-
--- the store of a sound book
-store-few : (b : Book) (material : ℕ) → Sound b → material < 12 → storeIn b material ≤ most
-store-few b material h l = omega (arith, h .year .posts-few, h .year .stores material l)
+difference-small grams store = between grams store (difference grams store) (store-and-difference grams store)
 
 either-way : (d : ℤ) → natAbs d ≤ most → EitherWay d
 either-way (pos n) h = record { lower = leZ-yes tt; upper = leZ-yes (le→leb n most h) }
@@ -165,30 +161,35 @@ pub too-much : (b : Book) (material grams : ℕ) → most < grams → declined s
 unfolding stockOf stockFrom checked
 too-much b material grams h = rw (lt-leb grams most h)
 
--- a book's answer by the set-up and the year that the code has from it
-module _ (b : Book) (material grams : ℕ) (u : Setup) (p : u ≡ b .setup) (hg : grams ≤ most) where
-  pub not-there : u .outline .materials ≤ material → declined stockCount ≡ stockOf b material grams
-  unfolding stockOf stockFrom checked
-  not-there h =
-      let unknown : b .setup .outline .materials ≤ material = omega (arith, ap (λ (x : Setup). x .outline .materials) p) in
-      rw (le-leb grams most hg, le-ltb material (b .setup .outline .materials) unknown)
+-- the book's materials are those of the set-up that the code has from it
+same-count : (b : Book) (u : Setup) → u ≡ b .setup → u .outline .materials ≡ b .setup .outline .materials
+same-count b u p = ap (λ (x : Setup). x .outline .materials) p
 
-  module _ (h : Sound b) (l : material < u .outline .materials) where
-    known : material < b .setup .outline .materials
-    known = omega (arith, ap (λ (x : Setup). x .outline .materials) p)
+pub not-there : (b : Book) (material grams : ℕ) (u : Setup) → u ≡ b .setup → grams ≤ most → u .outline .materials ≤ material
+    → declined stockCount ≡ stockOf b material grams
+unfolding stockOf stockFrom checked
+not-there b material grams u p hg h =
+    let unknown : b .setup .outline .materials ≤ material = omega (arith, same-count b u p) in
+    rw (le-leb grams most hg, le-ltb material (b .setup .outline .materials) unknown)
 
-    pub is-row : material < 12
-    is-row = omega (arith, known, h .setup .materials-few)
+pub in-book : (b : Book) (material : ℕ) (u : Setup) → u ≡ b .setup → material < u .outline .materials → material < b .setup .outline .materials
+in-book b material u p h = omega (arith, same-count b u p)
 
-    module _ (y : Year) (q : y ≡ b .year) where
-      pub store-small : getD (y .store) material 0 ≤ most
-      store-small = rw q (store-few b material h is-row)
+-- a material of the book has a store, which is small
+module _ (b : Book) (material : ℕ) (h : Sound b) (l : material < b .setup .outline .materials) where
+  pub has-store : material < 12
+  has-store = omega (arith, h .setup .materials-few)
 
-      pub answered : (d : ℤ) → d ≡ difference grams (getD (y .store) material 0) → taken d ≡ stockOf b material grams
-      unfolding stockOf stockFrom checked
-      answered d e =
-          rw (le-leb grams most hg, lt-ltb material (b .setup .outline .materials) known)
-          (ap taken (e ∙ ap (λ (z : Year). difference grams (getD (z .store) material 0)) q))
+  pub store-small : (y : Year) → y ≡ b .year → getD (y .store) material 0 ≤ most
+  store-small y q = rw q (omega (arith, h .year .posts-few, h .year .stores material has-store))
+
+-- and a difference from it is the answer
+pub answered : (b : Book) (material grams : ℕ) (y : Year) (d : ℤ) → y ≡ b .year → grams ≤ most → material < b .setup .outline .materials
+    → d ≡ difference grams (getD (y .store) material 0) → taken d ≡ stockOf b material grams
+unfolding stockOf stockFrom checked
+answered b material grams y d q hg l e =
+    rw (le-leb grams most hg, lt-ltb material (b .setup .outline .materials) l)
+    (ap taken (e ∙ ap (λ (z : Year). difference grams (getD (z .store) material 0)) q))
 
 -- every answer is from −8×10^12 to 8×10^12
 pub answers-within : AnswersWithin
@@ -199,7 +200,7 @@ answers-within b material grams d h e =
     let l = ltb-true material (b .setup .outline .materials) (both .1) in
     either-way d
     (subst (λ (z : ℤ). natAbs z ≤ most) (sym (t .1))
-    (difference-small grams (storeIn b material) (leb-true grams most (both .0)) (store-few b material h (omega (arith, l, h .setup .materials-few)))))
+    (difference-small grams (storeIn b material) (leb-true grams most (both .0)) (store-small b material h l (b .year) refl)))
 
 -- a book's answer by its number of materials and, where the material is one of them, its store
 pub same-sheet : (b : Book) (materials : ℕ) (storeOf : ℕ → ℕ) (material grams : ℕ) → b .setup .outline .materials ≡ materials
