@@ -6,6 +6,7 @@ use lib.Dec.{eqb, leb}
 use lib.ListN.{getD, set}
 use Rattle.plant.specs.declared.setup.Setup.{Setup}
 use Rattle.kinds.specs.Account.{held}
+use Rattle.post.specs.Moves.{closes}
 use Rattle.post.specs.declared.moves.Move.{Move}
 use Rattle.post.specs.declared.moves.Move.the-variants.{Received, Issued, Brought, Gone, Close}
 use Rattle.book.specs.Ledger.{cellOf, cell, added, moved, raised, brings, settled}
@@ -43,14 +44,6 @@ handledAfter counted handled (Issued m stage g) = raised (λ s. s) (brings count
 handledAfter counted handled (Brought account stage s n) = added handled s n
 handledAfter counted handled (Gone account stage s n) = handled
 handledAfter counted handled Close = handled
-
--- "and no post follows"
-abbrev pub closes : Move → Bool
-closes (Received m g) = false
-closes (Issued m stage g) = false
-closes (Brought account stage s n) = false
-closes (Gone account stage s n) = false
-closes Close = true
 
 -- a year after a move: only an open one has any
 abbrev pub yearAfter : Setup → Year → Move → Year

@@ -1,22 +1,18 @@
 -- What only follows the code's steps. No promise rests on these definitions.
 use Prim.Native.Nat.{ℕ, _*_, _^_, _≤_, _<_}
 use mathlib.Core.Path.{_≡_}
-use mathlib.Core.Bool.{Bool, true, not}
-use mathlib.Core.List.{List, [], _∷_}
+use mathlib.Core.Bool.{Bool, true}
+use mathlib.Core.List.{List}
 use lib.ListN.{length, getD}
-use Rattle.amounts.specs.Decline as number
-use Rattle.amounts.specs.Decline.{Answer, taken, declined, check, checked, onTaken, outOfTurn, full}
-use Rattle.layout.specs.Outline.{mayPost}
+use Rattle.amounts.specs.Decline.{Answer, taken, declined}
 use Rattle.layout.specs.Verdict.{verdictOf}
 use Rattle.layout.specs.declared.verdict.Verdict.{Verdict}
 use Rattle.layout.specs.declared.verdict.Verdict.the-variants.{Accepted, Declined}
 use Rattle.layout.specs.declared.outline.Outline.{Outline}
-use Rattle.post.specs.Moves.{moveAt}
 use Rattle.post.specs.Steps.{Fits}
 use Rattle.post.specs.declared.moves.Move.{Move}
 use Rattle.book.specs.Entry.{isThere, storeAfter, sumsAfter, handledAfter}
 use Rattle.book.specs.Ledger.{total}
-use Rattle.book.specs.Posts.{hasRoom}
 use Rattle.book.specs.declared.site.Year.{Year}
 
 -- a value by a verdict of it
@@ -47,13 +43,6 @@ pub record Entered (counted : List ℕ) (toWater : List Bool) (store sums handle
   pub handled-is : r ≡ true → handled' ≡ handledAfter counted handled m
 
 -- ---- a run of posts
-
--- 4 to 10: the move of a post that only 11 can still decline
-unfoldable pub admitted : Outline → List ℕ → Bool → ℕ → List ℕ → Answer Move
-unfolding checked moveAt
-admitted o numbers closed posts s =
-    onTaken (checked (check (mayPost o) outOfTurn ∷ check (not closed) number.closed ∷ []) s) (λ s.
-    onTaken (moveAt o numbers s) (λ m. checked (check (hasRoom posts m) full ∷ []) m))
 
 -- a year by its parts
 abbrev pub yearWith : List ℕ → List ℕ → List ℕ → ℕ → Bool → Year

@@ -1,6 +1,5 @@
 // A move entered in the lists of a year, which are lent together.
 ghost use mathlib.Core.Path.{_≡_};
-ghost use Rattle.book.specs.Entry.{closes};
 ghost use Rattle.book.specs.Steps.{Room, Entered};
 use crate::ledger;
 use kinds::account::HELD;
@@ -65,18 +64,5 @@ pub(crate) fn enter<'a>(
             ledger::settle(sums, to_water);
             true
         }
-    }
-}
-
-// Whether no post follows.
-pub(crate) fn closes(m: Move) -> bool
-    ensures { λ r. ⌜ r ≡ closes m ⌝ }
-{
-    match m {
-        Move::Received { .. } => false,
-        Move::Issued { .. } => false,
-        Move::Brought { .. } => false,
-        Move::Gone { .. } => false,
-        Move::Close => true,
     }
 }

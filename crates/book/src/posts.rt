@@ -2,13 +2,12 @@
 ghost use mathlib.Core.Path.{_≡_};
 ghost use Prim.Native.Nat.{_*_, _≤_, _<_};
 ghost use lib.ListN.{length};
-ghost use Rattle.post.specs.Moves as moves;
 ghost use Rattle.layout.specs.Posts.{partOf};
 ghost use Rattle.book.specs.Answer.{outcome};
 ghost use Rattle.book.specs.Block.{onYear};
-ghost use Rattle.book.specs.Posts.{hasRoom, takenTo, postsOn, singleOn};
+ghost use Rattle.book.specs.Posts.{takenTo, postsOn, singleOn};
 ghost use Rattle.book.specs.Site.{Sound, SoundYear, bookWith};
-ghost use Rattle.book.specs.Steps.{admitted, guarded, yearWith, Ran};
+ghost use Rattle.book.specs.Steps.{guarded, yearWith, Ran};
 ghost use Rattle.plant.specs.Setup.{SoundSetup};
 use crate::answer;
 use crate::answer::Answered;
@@ -16,13 +15,11 @@ use crate::entry;
 use crate::site::Book;
 use crate::site::Year;
 use amounts::decline;
-use layout::outline;
-use layout::outline::Outline;
 use layout::posts::POST_SIZE;
 use layout::verdict::Verdict;
 use plant::setup::Setup;
+use post::admission::admit;
 use post::moves;
-use post::moves::Move;
 use post::moves::MoveRead;
 
 // What a run answers, with the posts then counted and whether the close is among them.
@@ -30,36 +27,6 @@ pub struct RunEnd {
     pub verdict: Verdict,
     pub posts: u32,
     pub closed: bool,
-}
-
-fn has_room(posts: u32, m: Move) -> bool
-    ensures { λ r. ⌜ r ≡ hasRoom posts m ⌝ }
-{
-    if entry::closes(m) {
-        return true;
-    }
-    posts < 4000
-}
-
-// The move of a post of any bytes that passes 4 to 10.
-fn admit(o: Outline, numbers: &[u16], closed: bool, posts: u32, s: &[u8]) -> MoveRead
-    ensures { λ r. ⌜ moves.answer r ≡ admitted o (now (numbers .entry)) closed posts (now (s .entry)) ⌝ }
-{
-    if !outline::may_post(o) {
-        return MoveRead::Declined(decline::OUT_OF_TURN);
-    }
-    if closed {
-        return MoveRead::Declined(decline::CLOSED);
-    }
-    match moves::read_move(o, numbers, s) {
-        MoveRead::Declined(d) => MoveRead::Declined(d),
-        MoveRead::Known(m) => {
-            if has_room(posts, m) {
-                return MoveRead::Known(m);
-            }
-            MoveRead::Declined(decline::FULL)
-        }
-    }
 }
 
 // The first n posts of the bytes, each of the given size and tried on the year that the earlier ones left, up to the first that is declined.
@@ -106,7 +73,7 @@ pub(crate) fn run(
                     };
                 }
                 count = count + 1;
-                ended = entry::closes(m);
+                ended = moves::closes(m);
                 i += 1;
             }
         }

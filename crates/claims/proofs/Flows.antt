@@ -15,7 +15,8 @@ use Rattle.post.specs.Steps.{Fits}
 use Rattle.post.specs.declared.moves.Move.{Move}
 use Rattle.post.specs.declared.moves.Move.the-variants.{Received, Issued, Brought, Gone, Close}
 use Rattle.post.proofs.moves.Named.{Named}
-use Rattle.book.specs.Entry.{isThere, sumsAfter, closes}
+use Rattle.post.specs.Moves.{closes}
+use Rattle.book.specs.Entry.{isThere, sumsAfter}
 use Rattle.book.specs.Ledger.{cellOf, cell, added, moved, raised, brings}
 use Rattle.book.specs.Steps.{widest}
 use Rattle.book.proofs.ledger.Cells.{added-same, added-other, stands, falls, gains, raised-held, raised-other}

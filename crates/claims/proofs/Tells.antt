@@ -23,11 +23,11 @@ use Rattle.plant.specs.declared.setup.Setup.{Setup}
 use Rattle.layout.proofs.Each.{and-true}
 use Rattle.kinds.specs.Fields.{postAt}
 use Rattle.kinds.specs.Kind.{Row, kindOf}
-use Rattle.post.specs.Moves.{moveIn, said}
+use Rattle.post.specs.Moves.{moveIn, said, closes}
 use Rattle.post.specs.declared.moves.Move.{Move}
 use Rattle.post.proofs.moves.Laws.{move-fits}
 use Rattle.post.proofs.moves.Named.{Named, row-read, said-is, move-named}
-use Rattle.book.specs.Entry.{enters, handles, sumsAfter, closes}
+use Rattle.book.specs.Entry.{enters, handles, sumsAfter}
 use Rattle.book.specs.Posts.{postOn, takenTo, singleOn}
 use Rattle.book.specs.Site.{SoundYear, inYear, openPosts, bookWith, freshBook}
 use Rattle.book.specs.declared.site.Book.{Book}

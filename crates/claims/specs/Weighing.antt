@@ -17,7 +17,7 @@ use Rattle.plant.specs.declared.setup.Rates.{Rates}
 use Rattle.kinds.specs.Account.{held, shipped, offSite, landfill, soil, consumed, gas, water, vapour}
 use Rattle.post.specs.declared.moves.Move.{Move}
 use Rattle.post.specs.declared.moves.Move.the-variants.{Received, Issued, Brought, Gone, Close}
-use Rattle.book.specs.Entry.{closes}
+use Rattle.post.specs.Moves.{closes}
 use Rattle.book.specs.Ledger.{brings}
 use Rattle.book.specs.Site.{freshBook}
 use Rattle.report.specs.Fate.{toSewer, toPublicWater, toLandfill, toOffSite}

@@ -1,2 +1,3 @@
 pub mod Moves
+pub mod Admission
 pub mod Steps

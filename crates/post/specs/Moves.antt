@@ -1,6 +1,6 @@
 -- What a post does, as one value (document 01, "Posts" and "Why a call is declined, in checking order", 6 to 9).
 use Prim.Native.Nat.{ℕ, _*_}
-use mathlib.Core.Bool.{Bool}
+use mathlib.Core.Bool.{Bool, true, false}
 use mathlib.Core.List.{List, [], _∷_}
 use lib.Dec.{eqb}
 use lib.ListN.{length, getD}
@@ -73,6 +73,14 @@ moveAt o numbers s = onTaken (wellFormed o s) (λ k. moveIn k numbers (postAt s)
 -- the move that the bytes of an accepted post say, whatever the outline; bytes that say none were declined
 abbrev pub said : List ℕ → List ℕ → Move
 said numbers s = valueOr Close (onTaken (kindOf (postAt s .kind)) (λ k. moveIn k numbers (postAt s)))
+
+-- "13 close: .. and no post follows"
+abbrev pub closes : Move → Bool
+closes (Received m g) = false
+closes (Issued m stage g) = false
+closes (Brought account stage s n) = false
+closes (Gone account stage s n) = false
+closes Close = true
 
 -- what each case of the code's answer stands for
 abbrev pub answer : MoveRead → Answer Move

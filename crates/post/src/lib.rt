@@ -1,2 +1,3 @@
-// What a post does, read from its bytes.
+// What a post does, read from its bytes, and whether it is admitted.
+pub mod admission;
 pub mod moves;

@@ -8,7 +8,7 @@ ghost use Rattle.losses.specs.Loss as losses;
 ghost use Rattle.layout.specs.Verdict.{verdictOf};
 ghost use Rattle.kinds.specs.Fields.{postAt};
 ghost use Rattle.kinds.specs.declared.kind.Measure.the-variants.{Content};
-ghost use Rattle.post.specs.Moves.{floatsUnused, floatsFit, moveOf, laidOut, wellFormed, moveAt, answer};
+ghost use Rattle.post.specs.Moves.{floatsUnused, floatsFit, moveOf, laidOut, wellFormed, moveAt, closes, answer};
 ghost use Rattle.post.specs.Steps.{laidOf, laidAnswer, amountRead};
 use amounts::decline;
 use amounts::decline::Decline;
@@ -216,5 +216,18 @@ pub fn read_move(o: Outline, numbers: &[u16], s: &[u8]) -> MoveRead
             }
         }
         LaidRead::Declined(d) => MoveRead::Declined(d),
+    }
+}
+
+// Whether no post follows.
+pub fn closes(m: Move) -> bool
+    ensures { λ r. ⌜ r ≡ closes m ⌝ }
+{
+    match m {
+        Move::Received { .. } => false,
+        Move::Issued { .. } => false,
+        Move::Brought { .. } => false,
+        Move::Gone { .. } => false,
+        Move::Close => true,
     }
 }

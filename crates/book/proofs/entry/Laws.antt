@@ -15,12 +15,13 @@ use Rattle.layout.specs.declared.outline.Outline.{Outline}
 use Rattle.plant.specs.declared.setup.Setup.{Setup}
 use Rattle.layout.proofs.Each.{sum-point}
 use Rattle.kinds.specs.Account.{held}
+use Rattle.post.specs.Admission.{hasRoom}
+use Rattle.post.specs.Moves.{closes}
 use Rattle.post.specs.Steps.{Fits}
 use Rattle.post.specs.declared.moves.Move.{Move}
 use Rattle.post.specs.declared.moves.Move.the-variants.{Received, Issued, Brought, Gone, Close}
-use Rattle.book.specs.Entry.{isThere, storeAfter, sumsAfter, handledAfter, closes, yearAfter, enters, handles}
+use Rattle.book.specs.Entry.{isThere, storeAfter, sumsAfter, handledAfter, yearAfter, enters, handles}
 use Rattle.book.specs.Ledger.{cellOf, cell, total, added, brings}
-use Rattle.book.specs.Posts.{hasRoom}
 use Rattle.book.specs.Site.{SoundYear, storedTo, inYear, openPosts}
 use Rattle.plant.specs.Setup.{SoundSetup}
 use Rattle.book.specs.Steps.{widest, Room, Entered}

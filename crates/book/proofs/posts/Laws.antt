@@ -22,14 +22,15 @@ use Rattle.layout.specs.declared.verdict.Verdict.{Verdict}
 use Rattle.layout.specs.declared.verdict.Verdict.the-variants.{Accepted, Declined}
 use Rattle.layout.proofs.Checked.{passed}
 use Rattle.layout.proofs.posts.Laws.{Owned, owned}
-use Rattle.post.specs.Moves.{moveAt}
+use Rattle.post.specs.Moves.{moveAt, closes}
 use Rattle.post.specs.declared.moves.Move.{Move}
 use Rattle.post.proofs.moves.Laws.{move-fits}
 use Rattle.book.specs.Answer.{outcome}
-use Rattle.book.specs.Entry.{isThere, storeAfter, sumsAfter, handledAfter, closes, yearAfter}
-use Rattle.book.specs.Posts.{turnChecks, hasRoom, roomChecks, entered, postOn, takenTo, postsOn, singleOn}
+use Rattle.post.specs.Admission.{turnChecks, hasRoom, admitted}
+use Rattle.book.specs.Entry.{isThere, storeAfter, sumsAfter, handledAfter, yearAfter}
+use Rattle.book.specs.Posts.{entered, postOn, takenTo, postsOn, singleOn}
 use Rattle.book.specs.Site.{Sound, SoundYear, bookWith}
-use Rattle.book.specs.Steps.{Room, Entered, admitted, guarded, yearWith, Ran}
+use Rattle.book.specs.Steps.{Room, Entered, guarded, yearWith, Ran}
 use Rattle.plant.specs.Setup.{SoundSetup}
 use Rattle.book.specs.declared.answer.Answered.{Answered}
 use Rattle.book.specs.declared.site.Book.{Book}
@@ -45,25 +46,8 @@ module _ (u : Setup) (y : Year) (s : List ℕ) where
 
   -- a post that isn't admitted is declined
   pub not-admitted : (n : ℕ) → asks ≡ declined n → postOn u y s ≡ declined n
-  unfolding admitted postOn entered checked
-  not-admitted n e = go (checked (turnChecks u y) s) refl e
-    where
-      inner : (m : Move) → checked (check (hasRoom (y .posts) m) full ∷ []) m ≡ declined n → entered u y m ≡ declined n
-      inner m f = pick (hasRoom (y .posts) m) refl f
-        where
-          pick : (t : Bool) → hasRoom (y .posts) m ≡ t → checked (check t full ∷ []) m ≡ declined n → checked (roomChecks y m) (yearAfter u y m) ≡ declined n
-          pick true h g = let z : _≡_ {A = ℕ} 0 1 = cc in absurd (omega arith)
-          pick false h g = rw h (cc)
-
-      move : (x : Answer Move) → onTaken x (λ m. checked (check (hasRoom (y .posts) m) full ∷ []) m) ≡ declined n → onTaken x (entered u y) ≡ declined n
-      move (taken m) f = inner m f
-      move (declined i) f = cc
-
-      go : (x : Answer (List ℕ)) → checked (turnChecks u y) s ≡ x
-          → onTaken x (λ t. onTaken (moveAt (u .outline) (u .numbers) t) (λ m. checked (check (hasRoom (y .posts) m) full ∷ []) m)) ≡ declined n
-          → onTaken x (λ t. onTaken (moveAt (u .outline) (u .numbers) t) (entered u y)) ≡ declined n
-      go (taken t) h f = move (moveAt (u .outline) (u .numbers) t) f
-      go (declined i) h f = cc
+  unfolding postOn
+  not-admitted n e = ap (λ (x : Answer Move). onTaken x (entered u y)) e
 
   -- what is known of a move that is admitted
   pub record Admitted (m : Move) : Type 0 where
@@ -75,8 +59,8 @@ module _ (u : Setup) (y : Year) (s : List ℕ) where
   pub admits : (m : Move) → asks ≡ taken m → Admitted m
   unfolding admitted
   admits m e =
-      let a = was-taken (checked (turnChecks u y) s) _ m e in
-      let b = passed (turnChecks u y) s (a .0) (a .1) in
+      let a = was-taken (checked (turnChecks (u .outline) (y .closed)) s) _ m e in
+      let b = passed (turnChecks (u .outline) (y .closed)) s (a .0) (a .1) in
       let c = was-taken (moveAt (u .outline) (u .numbers) (a .0)) _ m (a .2) in
       let d = passed (check (hasRoom (y .posts) (c .0)) full ∷ []) (c .0) m (c .2) in
       record {
@@ -87,9 +71,9 @@ module _ (u : Setup) (y : Year) (s : List ℕ) where
       }
 
   -- it is taken where what leaves is there
-  pub on-there : (m : Move) → Admitted m → postOn u y s ≡ checked (check (isThere (y .store) (y .sums) m) short ∷ []) (yearAfter u y m)
-  unfolding postOn entered checked
-  on-there m a = rw (a .in-turn, a .is-open, a .told, a .room)
+  pub on-there : (m : Move) → asks ≡ taken m → postOn u y s ≡ checked (check (isThere (y .store) (y .sums) m) short ∷ []) (yearAfter u y m)
+  unfolding postOn entered
+  on-there m e = ap (λ (x : Answer Move). onTaken x (entered u y)) e
 
 -- ---- what a post that is taken tells
 
@@ -102,22 +86,9 @@ pub record Posted (u : Setup) (y : Year) (s : List ℕ) (z : Year) : Type 0 wher
 pub posted : (u : Setup) (y z : Year) (s : List ℕ) → postOn u y s ≡ taken z → Posted u y s z
 unfolding postOn entered
 posted u y z s e =
-    let a = was-taken (checked (turnChecks u y) s) _ z e in
-    let b = passed (turnChecks u y) s (a .0) (a .1) in
-    let c = was-taken (moveAt (u .outline) (u .numbers) (a .0)) (entered u y) z (a .2) in
-    let d = passed (roomChecks y (c .0)) (yearAfter u y (c .0)) z (c .2) in
-    record {
-      move = c .0;
-      admitted =
-          record {
-            in-turn = b .0 .0;
-            is-open = not-true (y .closed) (b .0 .1 .0);
-            told = ap (moveAt (u .outline) (u .numbers)) (sym (b .1)) ∙ c .1;
-            room = d .0 .0;
-          };
-      there = d .0 .1 .0;
-      year = d .1;
-    }
+    let a = was-taken (admitted (u .outline) (u .numbers) (y .closed) (y .posts) s) (entered u y) z e in
+    let d = passed (check (isThere (y .store) (y .sums) (a .0)) short ∷ []) (yearAfter u y (a .0)) z (a .2) in
+    record { move = a .0; admitted = admits u y s (a .0) (a .1); there = d .0 .0; year = d .1 }
 
 -- the year after it
 pub post-step : (u : Setup) (y z : Year) (s : List ℕ) → SoundSetup u → SoundYear u y → (p : Posted u y s z) → Step u y (p .move) z
@@ -222,7 +193,7 @@ module _ (t : Turn) where
     pub turn-short : (m : Move) → tried ≡ taken m → isThere (y .store) (y .sums) m ≡ false → all n ≡ declined short
     unfolding checked
     turn-short m e f =
-        stays-declined u (t .given) (t .posts) (t .place + 1) n short (next-is ∙ on-there u y bytes m (admits u y bytes m e) ∙ rw f) (omega arith)
+        stays-declined u (t .given) (t .posts) (t .place + 1) n short (next-is ∙ on-there u y bytes m e ∙ rw f) (omega arith)
 
   module _ (m : Move) (e : tried ≡ taken m) where
     pub turn-room : Room (u .counted) (y .store) (y .sums) (y .handled) m
@@ -235,7 +206,7 @@ module _ (t : Turn) where
 
     pub turn-taken : isThere (y .store) (y .sums) m ≡ true → all (t .place + 1) ≡ taken (yearAfter u y m)
     unfolding checked
-    turn-taken f = next-is ∙ on-there u y bytes m (admits u y bytes m e) ∙ rw f
+    turn-taken f = next-is ∙ on-there u y bytes m e ∙ rw f
 
     -- by the lists as they were entered
     pub turn-entered : (store sums handled : List ℕ) (r closed : Bool) → Entered (u .counted) (u .«to_water») (y .store) (y .sums) (y .handled) m store sums handled r

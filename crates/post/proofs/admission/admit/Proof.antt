@@ -1,9 +1,9 @@
 use Rattle.amounts.specs.Decline.{checked}
 use Rattle.layout.proofs.verdict.Laws.{holds, misses}
-use Rattle.book.specs.Steps.{admitted}
+use Rattle.post.specs.Admission.{admitted}
 use borrow.Author.Needs.{needs}
-use Rattle.book.proofs.posts.admit.Statement.{statement}
-use Rattle.book.proofs.posts.admit.Tie as tie
+use Rattle.post.proofs.admission.admit.Statement.{statement}
+use Rattle.post.proofs.admission.admit.Tie as tie
 
 may-post-requires : tie.Need-may-post-requires
 may-post-requires c κs = search needs

@@ -1,7 +1,7 @@
 use mathlib.Core.Path.{refl}
 use borrow.Author.Needs.{needs}
-use Rattle.book.proofs.posts.has_room.Statement.{statement}
-use Rattle.book.proofs.posts.has_room.Tie as tie
+use Rattle.post.proofs.admission.has_room.Statement.{statement}
+use Rattle.post.proofs.admission.has_room.Tie as tie
 
 closes-requires : tie.Need-closes-requires
 closes-requires c κs = search needs
