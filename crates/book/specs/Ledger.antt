@@ -3,7 +3,7 @@ use Prim.Native.Nat.{ℕ, zero, suc, _+_, _-_, _*_}
 use mathlib.Core.Bool.{Bool, true, false}
 use mathlib.Core.List.{List}
 use lib.ListN.{getD, set}
-use Rattle.layout.specs.Each.{sumTo, putTo}
+use Rattle.encoding.specs.Each.{sumTo, putTo}
 use Rattle.kinds.specs.Account.{held, gas, water}
 
 -- the place of a sum: by account and pair, and by account, stage and substance

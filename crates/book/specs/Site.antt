@@ -4,7 +4,7 @@ use mathlib.Core.Path.{_≡_}
 use mathlib.Core.Bool.{Bool, true, false}
 use mathlib.Core.List.{List}
 use lib.ListN.{length, getD, replicate}
-use Rattle.layout.specs.Each.{sumTo}
+use Rattle.encoding.specs.Each.{sumTo}
 use Rattle.layout.specs.Outline.{mayPost}
 use Rattle.plant.specs.Setup.{freshSetup, SoundSetup}
 use Rattle.plant.specs.declared.setup.Setup.{Setup}

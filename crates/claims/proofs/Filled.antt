@@ -10,8 +10,8 @@ use lib.ListN.{length, getD, take, drop, replicate, length-append, length-drop, 
 use lib.Seq.{drop-at, take-append-le, drop-append-le, take-all}
 use Rattle.amounts.specs.Decline.{Answer, taken, check, checked, onTaken, layout}
 use Rattle.amounts.proofs.decline.Laws.{was-taken}
-use Rattle.layout.specs.Bytes.{allZero, padded, within}
-use Rattle.layout.specs.Each.{allTo}
+use Rattle.encoding.specs.Bytes.{allZero, padded, within}
+use Rattle.encoding.specs.Each.{allTo}
 use Rattle.layout.specs.Frame.{bodyOf, frameChecks, blockOf}
 use Rattle.layout.specs.Outline.{mayPost}
 use Rattle.layout.specs.Posts.{postIn, ownChecks}

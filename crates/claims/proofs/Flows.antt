@@ -8,8 +8,8 @@ use native.Mathlib.Omega.{arith}
 use borrow.Author.Tests.{eq-eqb, ne-eqb, leb-true}
 use lib.Dec.{eqb}
 use lib.ListN.{length}
-use Rattle.layout.specs.Each.{sumTo}
-use Rattle.layout.proofs.Each.{sum-none, sum-point}
+use Rattle.encoding.specs.Each.{sumTo}
+use Rattle.encoding.proofs.Each.{sum-none, sum-point}
 use Rattle.kinds.specs.Account.{held}
 use Rattle.post.specs.Steps.{Fits}
 use Rattle.post.specs.declared.moves.Move.{Move}

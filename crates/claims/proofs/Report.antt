@@ -11,10 +11,10 @@ use lib.ListN.{getD}
 use Rattle.amounts.specs.Decline.{valueOr}
 use Rattle.amounts.specs.Filed.{filedOf}
 use Rattle.amounts.specs.Threshold.{dueOf}
-use Rattle.layout.specs.Each.{sumTo}
+use Rattle.encoding.specs.Each.{sumTo}
 use Rattle.plant.specs.declared.setup.Rates.{Rates}
 use Rattle.plant.specs.declared.setup.Setup.{Setup}
-use Rattle.layout.proofs.Each.{sum-same}
+use Rattle.encoding.proofs.Each.{sum-same}
 use Rattle.kinds.specs.Account.{held, shipped, offSite, landfill, soil, consumed, gas, water, vapour}
 use Rattle.post.specs.declared.moves.Move.{Move}
 use Rattle.post.specs.declared.moves.Move.the-variants.{Received, Issued, Brought, Gone, Close}

@@ -9,12 +9,12 @@ use borrow.Author.Tests.{eq-eqb, ne-eqb}
 use lib.Dec.{eqb}
 use lib.ListN.{length, getD, drop, set}
 use lib.Seq.{getD-set-same, getD-set-other}
-use Rattle.layout.specs.Each.{putTo}
+use Rattle.encoding.specs.Each.{putTo}
 use Rattle.amounts.specs.Decline.{valueOr}
 use Rattle.plant.specs.Setup.{noRates, materialsIn, numbersIn, classesIn, contentsIn, countedAll, setupOf, SoundSetup}
 use Rattle.plant.specs.Stage.{secondOf, sewered, landfilled, waterRow, rateRow, withStage}
 use Rattle.plant.specs.declared.setup.Setup.{Setup}
-use Rattle.layout.proofs.Each.{put-at, put-other}
+use Rattle.encoding.proofs.Each.{put-at, put-other}
 use Rattle.plant.proofs.stage.Laws as stage-laws
 use Rattle.plant.proofs.setup.Taken.{same-at}
 use Rattle.plant.proofs.stage.Taken as stage

@@ -6,8 +6,8 @@ use Prim.Native.Nat.{ℕ, _+_, _-_, _*_, _≤_, _<_}
 use native.Mathlib.Omega.{arith}
 use lib.Dec.{eqb}
 use lib.ListN.{length, getD}
-use Rattle.layout.specs.Each.{sumTo}
-use Rattle.layout.proofs.Each.{sum-none}
+use Rattle.encoding.specs.Each.{sumTo}
+use Rattle.encoding.proofs.Each.{sum-none}
 use Rattle.kinds.specs.Account.{held}
 use Rattle.post.specs.Steps.{Fits}
 use Rattle.post.specs.declared.moves.Move.{Move}

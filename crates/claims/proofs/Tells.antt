@@ -8,7 +8,7 @@ use lib.Dec.{eqb}
 use lib.ListN.{length, getD, length-append}
 use Rattle.amounts.specs.Decline.{Answer, taken, declined, isTaken, valueOr}
 use Rattle.amounts.proofs.decline.Laws.{was-taken}
-use Rattle.layout.specs.Each.{listTo}
+use Rattle.encoding.specs.Each.{listTo}
 use Rattle.layout.specs.Frame.{blockKind, countOf, bodyOf}
 use Rattle.layout.specs.Holds.{holdsOf}
 use Rattle.layout.specs.declared.holds.Holds.{Holds}
@@ -20,7 +20,7 @@ use Rattle.plant.specs.Setup.{materialsIn, setupOf, SoundSetup}
 use Rattle.plant.specs.Stage.{withStage}
 use Rattle.layout.specs.declared.outline.Outline.{Outline}
 use Rattle.plant.specs.declared.setup.Setup.{Setup}
-use Rattle.layout.proofs.Each.{and-true}
+use Rattle.encoding.proofs.Each.{and-true}
 use Rattle.kinds.specs.Fields.{postAt}
 use Rattle.kinds.specs.Kind.{Row, kindOf}
 use Rattle.post.specs.Moves.{moveIn, said, closes}

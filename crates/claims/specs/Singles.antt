@@ -3,7 +3,7 @@ use Prim.Native.Nat.{ℕ, _+_}
 use mathlib.Core.Path.{_≡_}
 use mathlib.Core.List.{List, [], _∷_}
 use Rattle.amounts.specs.Decline.{Answer, taken, checked, onTaken}
-use Rattle.layout.specs.Each.{listTo}
+use Rattle.encoding.specs.Each.{listTo}
 use Rattle.layout.specs.Frame.{blockKind, countOf, bodyOf, frameChecks}
 use Rattle.layout.specs.Holds.{holdsOf}
 use Rattle.layout.specs.Posts.{postIn, ownChecks}

@@ -3,7 +3,7 @@ use Prim.Native.Nat.{ℕ, _+_}
 use mathlib.Core.Bool.{Bool, true, false}
 use mathlib.Core.List.{List, [], _∷_, _++_, map}
 use Rattle.amounts.specs.Decline.{Answer, taken, declined, isTaken, valueOr}
-use Rattle.layout.specs.Each.{listTo}
+use Rattle.encoding.specs.Each.{listTo}
 use Rattle.layout.specs.Frame.{blockKind, countOf, bodyOf}
 use Rattle.layout.specs.Holds.{holdsOf}
 use Rattle.layout.specs.Posts.{postIn}

@@ -10,7 +10,7 @@ use Rattle.amounts.specs.Decline.{Answer, check, checked, valueOr, noSubstance}
 use Rattle.amounts.specs.Threshold.{dueOf}
 use Rattle.amounts.specs.Treatment.{partsOf}
 use Rattle.amounts.specs.declared.treatment.Parts.{Parts}
-use Rattle.layout.specs.Each.{sumTo}
+use Rattle.encoding.specs.Each.{sumTo}
 use Rattle.layout.specs.Frame.{countOf, bodyOf}
 use Rattle.plant.specs.Stage.{sewered, landfilled, waterRow, rateRow}
 use Rattle.plant.specs.declared.setup.Rates.{Rates}

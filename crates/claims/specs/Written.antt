@@ -6,8 +6,8 @@ use mathlib.Core.List.{List, [], _∷_, _++_}
 use lib.Dec.{eqb}
 use lib.ListN.{length, drop}
 use Rattle.amounts.specs.Decline.{Answer, taken, declined, Check, checked, onTaken, isTaken}
-use Rattle.layout.specs.Bytes.{padded}
-use Rattle.layout.specs.Each.{listTo}
+use Rattle.encoding.specs.Bytes.{padded}
+use Rattle.encoding.specs.Each.{listTo}
 use Rattle.layout.specs.Frame.{blockKind, countOf, bodyOf, frameChecks, blockOf}
 use Rattle.layout.specs.Holds.{holdsOf}
 use Rattle.layout.specs.Outline.{freshOutline}

@@ -2,7 +2,7 @@
 use Prim.Native.Nat.{ℕ}
 use mathlib.Core.List.{List}
 use lib.ListN.{getD, drop}
-use Rattle.layout.specs.Bytes.{le}
+use Rattle.encoding.specs.Bytes.{le}
 use Rattle.kinds.specs.declared.fields.Post.{Post}
 
 -- "0 kind, 1 material (in kind 12: form), 2 stage, 3 substance, 4–7 content, 8–15 quantity, 16–47 four floats w, u, p, q in that order"

@@ -1,7 +1,7 @@
 // A post's 48 bytes, field by field.
 ghost use mathlib.Core.Path.{_≡_};
 ghost use Rattle.kinds.specs.Fields.{postAt};
-use layout::bytes;
+use encoding::bytes;
 
 // Floats are kept as bit patterns. In kind 12 the form stands in the material's place.
 pub struct Post {

@@ -6,8 +6,8 @@ use lib.Dec.{eqb}
 use lib.ListN.{length, getD, take, drop}
 use Rattle.amounts.specs.Decline as number
 use Rattle.amounts.specs.Decline.{Answer, Check, check, checked, onTaken, isTaken}
-use Rattle.layout.specs.Bytes.{le, part, littleEndian}
-use Rattle.layout.specs.Each.{sumTo}
+use Rattle.encoding.specs.Bytes.{le, part, littleEndian}
+use Rattle.encoding.specs.Each.{sumTo}
 use Rattle.layout.specs.Holds.{holdsOf}
 use Rattle.layout.specs.declared.frame.CheckSums.{CheckSums}
 use Rattle.layout.specs.declared.holds.Holds.{Holds}

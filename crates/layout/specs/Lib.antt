@@ -1,5 +1,3 @@
-pub mod Each
-pub mod Bytes
 pub mod Holds
 pub mod Outline
 pub mod Verdict

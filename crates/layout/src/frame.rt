@@ -6,12 +6,12 @@ ghost use Rattle.amounts.specs.Decline.{checked};
 ghost use Rattle.layout.specs.Verdict.{verdictOf};
 ghost use Rattle.layout.specs.Frame.{hasTag, sumsOf, bodyOf, blockOf, frameChecks, heldAt};
 ghost use Rattle.layout.specs.Holds.{answer};
-use crate::bytes;
 use crate::holds;
 use crate::holds::HoldsRead;
 use crate::verdict::Verdict;
 use crate::verdict::row;
 use amounts::decline;
+use encoding::bytes;
 
 // The sum of bytes, and of each byte times its place from 1, both modulo 65,521.
 pub struct CheckSums {

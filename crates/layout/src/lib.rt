@@ -1,5 +1,4 @@
 // What a block's frame and the bodies of its kinds say, their turns and limits, without a book.
-pub mod bytes;
 pub mod frame;
 pub mod holds;
 pub mod outline;

@@ -3,12 +3,12 @@ ghost use mathlib.Core.Path.{_≡_};
 ghost use Rattle.amounts.specs.Decline.{checked};
 ghost use Rattle.layout.specs.Verdict.{verdictOf};
 ghost use Rattle.layout.specs.Posts.{ownChecks};
-use crate::bytes;
 use crate::outline;
 use crate::outline::Outline;
 use crate::verdict::Verdict;
 use crate::verdict::row;
 use amounts::decline;
+use encoding::bytes;
 
 // The bytes of a post.
 pub const POST_SIZE: usize = 48;

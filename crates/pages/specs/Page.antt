@@ -12,7 +12,7 @@ use Rattle.layout.specs.Posts.{postSize}
 use Rattle.layout.specs.Verdict.{verdictOf}
 use Rattle.layout.specs.declared.holds.SetupPart.{SetupPart}
 use Rattle.layout.specs.declared.verdict.Verdict.{Verdict}
-use Rattle.layout.specs.Bytes.{placed}
+use Rattle.encoding.specs.Bytes.{placed}
 use Rattle.pages.specs.Tally as tally
 use Rattle.pages.specs.Tally.{partOfKind, setUpChecks, postAnswer}
 use Rattle.pages.specs.declared.draft.Draft.{Draft}

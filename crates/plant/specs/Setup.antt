@@ -8,8 +8,8 @@ use lib.ListN.{length, getD, drop, replicate}
 use Rattle.amounts.specs.Class.{isClass}
 use Rattle.amounts.specs.Content.{countedOf}
 use Rattle.amounts.specs.Decline.{Answer, taken, declined, Check, check, checked, valueOr, outOfTurn, layout}
-use Rattle.layout.specs.Bytes.{le, les, part, within, allZero}
-use Rattle.layout.specs.Each.{sumTo, allTo, listTo}
+use Rattle.encoding.specs.Bytes.{le, les, part, within, allZero}
+use Rattle.encoding.specs.Each.{sumTo, allTo, listTo}
 use Rattle.layout.specs.Outline.{freshOutline, maySetUp}
 use Rattle.layout.specs.declared.outline.Outline.{Outline}
 use Rattle.layout.specs.declared.verdict.Verdict.the-variants.{Accepted, Declined}

@@ -6,8 +6,8 @@ use lib.Dec.{eqb, leb}
 use lib.ListN.{length, getD, drop, set}
 use Rattle.amounts.specs.Content.{isPpm}
 use Rattle.amounts.specs.Decline.{Answer, taken, declined, isTaken, valueOr, Check, check, checked, outOfTurn, layout}
-use Rattle.layout.specs.Bytes.{le, allZero}
-use Rattle.layout.specs.Each.{allTo, putTo}
+use Rattle.encoding.specs.Bytes.{le, allZero}
+use Rattle.encoding.specs.Each.{allTo, putTo}
 use Rattle.layout.specs.Outline.{withDescribed, mayDescribe}
 use Rattle.layout.specs.declared.outline.Outline.{Outline}
 use Rattle.plant.specs.declared.setup.Rates.{Rates}

@@ -9,7 +9,7 @@ use amounts::class;
 use amounts::content;
 use amounts::content::Counted;
 use amounts::decline;
-use layout::bytes;
+use encoding::bytes;
 use layout::outline;
 use layout::outline::Outline;
 use layout::verdict::Verdict;

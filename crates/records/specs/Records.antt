@@ -4,7 +4,7 @@ use mathlib.Core.Bool.{Bool, cond}
 use mathlib.Core.List.{List, [], _∷_}
 use lib.Dec.{eqb, leb}
 use lib.ListN.{length, getD, take, drop}
-use Rattle.layout.specs.Bytes.{le}
+use Rattle.encoding.specs.Bytes.{le}
 use Rattle.pages.specs.Calls.{Call, setUp, post, end}
 
 -- a call, or bytes that are none

@@ -3,7 +3,7 @@ ghost use Rattle.pages.specs.Page.{pageOf, Sound, Answers};
 ghost use Rattle.records.specs.Records.{recordOf, firstOf};
 ghost use Rattle.records.specs.Batch.{recordOn};
 use crate::record;
-use layout::bytes;
+use encoding::bytes;
 use layout::verdict::Verdict;
 use pages::draft::Draft;
 use pages::page;

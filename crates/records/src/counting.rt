@@ -3,7 +3,7 @@ ghost use Rattle.pages.specs.Tally.{Sound, Counts};
 ghost use Rattle.records.specs.Counting.{recordCounted};
 ghost use Rattle.records.specs.Records.{recordOf, firstOf};
 use crate::record;
-use layout::bytes;
+use encoding::bytes;
 use layout::verdict::Verdict;
 use pages::tally;
 use pages::tally::Counted;

@@ -2,7 +2,7 @@
 ghost use mathlib.Core.Path.{_≡_};
 ghost use Rattle.records.specs.Records.{spanOf, bytesOf};
 use amounts::decline::Decline;
-use layout::bytes;
+use encoding::bytes;
 
 // A set-up block.
 pub(crate) const SET_UP: u8 = b'S';

@@ -9,7 +9,7 @@ use book::answer::Answered;
 use book::block;
 use book::posts;
 use book::site::Book;
-use layout::bytes;
+use encoding::bytes;
 use report::report::report_of;
 use stock::sheet::difference_of;
 use streams::output;

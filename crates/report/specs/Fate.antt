@@ -5,7 +5,7 @@ use mathlib.Core.List.{List}
 use lib.ListN.{getD}
 use Rattle.amounts.specs.Treatment.{partsOf}
 use Rattle.amounts.specs.declared.treatment.Parts.{Parts}
-use Rattle.layout.specs.Each.{sumTo}
+use Rattle.encoding.specs.Each.{sumTo}
 use Rattle.plant.specs.Setup.{noRates}
 use Rattle.plant.specs.declared.setup.Rates.{Rates}
 use Rattle.plant.specs.declared.setup.Setup.{Setup}

@@ -3,7 +3,7 @@ use Prim.Native.Nat.{ℕ, _+_, _≤_}
 use mathlib.Core.Path.{_≡_}
 use mathlib.Core.List.{List}
 use lib.ListN.{length}
-use Rattle.layout.specs.Bytes.{written}
+use Rattle.encoding.specs.Bytes.{written}
 
 -- the text ends within the buffer
 pub record Room (l : List ℕ) (at : ℕ) (text : List ℕ) : Type 0 where

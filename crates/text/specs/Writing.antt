@@ -5,7 +5,7 @@ use mathlib.Core.Bool.{cond}
 use mathlib.Core.List.{List}
 use lib.Dec.{leb}
 use lib.ListN.{length}
-use Rattle.layout.specs.Bytes.{written}
+use Rattle.encoding.specs.Bytes.{written}
 use Rattle.text.specs.declared.writing.Written.{Written}
 use Rattle.text.specs.declared.writing.Written.the-variants.{At, NoRoom}
 

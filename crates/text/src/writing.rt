@@ -1,7 +1,7 @@
 // Bytes at a place of a lent buffer.
 ghost use mathlib.Core.List.{[], _∷_};
 ghost use Rattle.text.specs.Steps.{Room, Puts};
-use layout::bytes;
+use encoding::bytes;
 
 // The place after the text, or that the buffer has too little room.
 pub enum Written {

@@ -4,8 +4,8 @@ use mathlib.Core.List.{List, [], _∷_, _++_}
 use lib.Ieee as ieee
 use Rattle.amounts.specs.Content.{countedOf}
 use Rattle.amounts.specs.Decline.{taken, declined, short}
-use Rattle.layout.specs.Bytes.{le, written, placed}
-use Rattle.layout.specs.Each.{sumTo, allTo, listTo, putTo}
+use Rattle.encoding.specs.Bytes.{le, written, placed}
+use Rattle.encoding.specs.Each.{sumTo, allTo, listTo, putTo}
 use Rattle.plant.specs.Setup.{setUpOn}
 use Rattle.plant.specs.Stage.{secondOf, ratesAt, describedOn}
 use Rattle.kinds.specs.Fields.{postAt}

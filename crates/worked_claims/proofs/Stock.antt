@@ -6,8 +6,8 @@ use lib.Ieee as ieee
 use lib.ListN.{getD}
 use Rattle.amounts.specs.Content.{countedOf}
 use Rattle.amounts.specs.Decline.{checked}
-use Rattle.layout.specs.Bytes.{le}
-use Rattle.layout.specs.Each.{sumTo, allTo, listTo, putTo}
+use Rattle.encoding.specs.Bytes.{le}
+use Rattle.encoding.specs.Each.{sumTo, allTo, listTo, putTo}
 use Rattle.plant.specs.Setup.{setUpOn}
 use Rattle.plant.specs.Stage.{secondOf, ratesAt, describedOn}
 use Rattle.kinds.specs.Fields.{postAt}

@@ -5,7 +5,7 @@ use mathlib.Core.Path.{_≡_}
 use mathlib.Core.List.{List, [], _∷_, _++_}
 use lib.ListN.{replicate}
 use Rattle.amounts.specs.Decline.{declined, valueOr, short}
-use Rattle.layout.specs.Bytes.{padded}
+use Rattle.encoding.specs.Bytes.{padded}
 use Rattle.book.specs.Site.{freshBook}
 use Rattle.book.specs.declared.site.Book.{Book}
 use Rattle.book.specs.Blocks.{partsIn, refused, readAll}

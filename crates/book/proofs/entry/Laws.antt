@@ -13,7 +13,7 @@ use lib.Seq.{getD-set-same, getD-set-other}
 use Rattle.layout.specs.Outline.{mayPost}
 use Rattle.layout.specs.declared.outline.Outline.{Outline}
 use Rattle.plant.specs.declared.setup.Setup.{Setup}
-use Rattle.layout.proofs.Each.{sum-point}
+use Rattle.encoding.proofs.Each.{sum-point}
 use Rattle.kinds.specs.Account.{held}
 use Rattle.post.specs.Admission.{hasRoom}
 use Rattle.post.specs.Moves.{closes}

@@ -9,7 +9,7 @@ use borrow.Author.Tests.{eq-eqb, ne-eqb}
 use lib.Dec.{eqb}
 use lib.ListN.{length, getD, set, length-set}
 use lib.Seq.{getD-set-same, getD-set-other}
-use Rattle.layout.proofs.Each.{put-other}
+use Rattle.encoding.proofs.Each.{put-other}
 use Rattle.kinds.specs.Account.{held}
 use Rattle.book.specs.Ledger.{at, cellOf, cell, added, moved, raised, closesTo, settled}
 use Rattle.book.proofs.ledger.Laws.{closes-below, length-settled, raised-at, own-place}

@@ -6,9 +6,9 @@ use Prim.Native.Nat.{ℕ, _+_, _*_, _≤_, _<_}
 use native.Mathlib.Nat.{zero-mul}
 use native.Mathlib.Omega.{arith}
 use lib.ListN.{getD, replicate, length-replicate}
-use Rattle.layout.specs.Each.{sumTo}
+use Rattle.encoding.specs.Each.{sumTo}
 use Rattle.plant.specs.declared.setup.Setup.{Setup}
-use Rattle.layout.proofs.Each.{sum-none}
+use Rattle.encoding.proofs.Each.{sum-none}
 use Rattle.plant.proofs.setup.Taken.{same-at, fresh-sound}
 use Rattle.book.specs.Ledger.{total, cellOf}
 use Rattle.book.specs.Site.{Sound, SoundYear, freshBook, storedTo, openPosts}

@@ -8,8 +8,8 @@ use borrow.Author.Tests.{eq-eqb, le-leb}
 use lib.ListN.{length, getD, drop, length-append}
 use lib.Seq.{drop-at}
 use Rattle.amounts.specs.Decline.{Answer, taken, Check, checked, onTaken, isTaken}
-use Rattle.layout.specs.Bytes.{padded, allZero, within}
-use Rattle.layout.specs.Each.{listTo}
+use Rattle.encoding.specs.Bytes.{padded, allZero, within}
+use Rattle.encoding.specs.Each.{listTo}
 use Rattle.layout.specs.Frame.{blockKind, countOf, bodyOf, blockOf}
 use Rattle.layout.specs.Holds.{holdsOf}
 use Rattle.layout.specs.Outline.{mayPost}

@@ -12,7 +12,7 @@ use Rattle.layout.specs.Outline.{freshOutline, mayPost}
 use Rattle.layout.specs.declared.holds.SetupPart.{SetupPart}
 use Rattle.layout.specs.declared.outline.Outline.{Outline}
 use Rattle.post.specs.Moves.{wellFormed}
-use Rattle.layout.specs.Bytes.{placed}
+use Rattle.encoding.specs.Bytes.{placed}
 use Rattle.pages.specs.Page.{Page, freshPage}
 use Rattle.pages.specs.Tally.{outlineAfter}
 use Rattle.pages.specs.declared.tally.Tally.{Tally}

@@ -13,7 +13,7 @@ use Rattle.layout.specs.declared.holds.SetupPart.{SetupPart}
 use Rattle.layout.specs.declared.outline.Outline.{Outline}
 use Rattle.layout.proofs.frame.Made.{made-long}
 use Rattle.pages.specs.Calls.{setUp}
-use Rattle.layout.specs.Bytes.{placed}
+use Rattle.encoding.specs.Bytes.{placed}
 use Rattle.pages.specs.Page as page
 use Rattle.pages.specs.Page.{Page, pageOf, draftOf, withPart, finished, postsBlock, withPost, posted}
 use Rattle.pages.specs.Tally as tally

@@ -9,7 +9,7 @@ use borrow.Author.Tests.{leb-true, ltb-true, ne-eqb}
 use lib.Dec.{eqb, leb, ltb}
 use Rattle.amounts.specs.Decline.{Answer, taken, declined, layout}
 use Rattle.layout.specs.declared.outline.Outline.{Outline}
-use Rattle.layout.proofs.Each.{and-true}
+use Rattle.encoding.proofs.Each.{and-true}
 use Rattle.kinds.specs.Kind.{Row, below, formNumbers, contents, grams, micrograms, inSpan, fieldsFit, rows, rowIf, find, kindOf, limited}
 use Rattle.kinds.specs.declared.fields.Post.{Post}
 use Rattle.kinds.specs.declared.kind.Does.{Does}

@@ -5,9 +5,9 @@ use Prim.Native.Nat.{ℕ, _+_, _/_, _%_, _<_}
 use native.Mathlib.Omega.{arith}
 use lib.ListN.{length, take, drop, drop-of-length-le}
 use lib.Seq.{take-append-add}
-use Rattle.layout.specs.Bytes.{littleEndian, placed}
+use Rattle.encoding.specs.Bytes.{littleEndian, placed}
 use Rattle.layout.specs.Frame.{bodyOf, plainSum, weightedSum, sumsOf, headOf, summed, blockOf}
-use Rattle.layout.proofs.bytes.Placed.{placed-in, placed-long}
+use Rattle.encoding.proofs.bytes.Placed.{placed-in, placed-long}
 use Rattle.layout.proofs.frame.Made.{plain-small, weighted-small}
 
 two-bytes : (n : ℕ) → n < 65536 → n / 256 ≡ n / 256 % 256

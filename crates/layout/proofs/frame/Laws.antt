@@ -8,12 +8,12 @@ use lib.ListN.{length, getD, drop}
 use lib.Seq.{getD-drop}
 use Rattle.amounts.specs.Decline.{taken, declined, checked}
 use Rattle.amounts.proofs.decline.Laws.{was-taken}
-use Rattle.layout.specs.Bytes.{le}
+use Rattle.encoding.specs.Bytes.{le}
 use Rattle.layout.specs.Frame.{blockKind, frameChecks, heldAt}
 use Rattle.layout.specs.Holds.{holdsOf}
 use Rattle.layout.specs.declared.holds.Holds.{Holds}
 use Rattle.layout.proofs.Checked.{passed}
-use Rattle.layout.proofs.bytes.Laws.{le-small}
+use Rattle.encoding.proofs.bytes.Laws.{le-small}
 
 pub record Framed (number : ℕ) (s : List ℕ) : Type 0 where
   pub long : length s ≡ 512

@@ -8,7 +8,7 @@ use borrow.Author.Tests.{eq-eqb}
 use lib.ListN.{length, take, drop, length-append}
 use lib.Seq.{take-at, drop-at, drop-drop}
 use Rattle.amounts.specs.Decline.{taken, checked, isTaken}
-use Rattle.layout.specs.Bytes.{le, littleEndian}
+use Rattle.encoding.specs.Bytes.{le, littleEndian}
 use Rattle.layout.specs.Frame.{hasTag, blockKind, countOf, bodyOf, plainSum, weightedSum, sumsOf, frameChecks, headOf, summed, blockOf}
 use Rattle.layout.specs.Holds.{holdsOf}
 use Rattle.layout.specs.declared.holds.Holds.{Holds}

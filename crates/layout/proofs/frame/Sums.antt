@@ -9,8 +9,8 @@ use lib.Seq.{getD-take}
 use mir.Syntax.{Width, w16, w32}
 use mir.Val.{hbits, toZ, ofZ, SFits}
 use mir.ValLaws.{toZ-pos}
-use Rattle.layout.specs.Each.{sumTo}
-use Rattle.layout.proofs.Each.{sum-same}
+use Rattle.encoding.specs.Each.{sumTo}
+use Rattle.encoding.proofs.Each.{sum-same}
 
 pub small : (w : Width) (n : ℕ) (z : ℤ) → z ≡ pos n → n < 2 ^ hbits w → SFits w z
 small w n z e h = subst (SFits w) (sym e) (record { sfits = h })

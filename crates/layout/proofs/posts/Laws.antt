@@ -10,7 +10,7 @@ use Rattle.layout.specs.Outline.{mayPost}
 use Rattle.layout.specs.Posts.{ownChecks}
 use Rattle.layout.specs.declared.outline.Outline.{Outline}
 use Rattle.layout.proofs.Checked.{passed}
-use Rattle.layout.proofs.bytes.Laws.{within-true}
+use Rattle.encoding.proofs.bytes.Laws.{within-true}
 
 pub record Owned (o : Outline) (closed : Bool) (count : ℕ) (body : List ℕ) : Type 0 where
   pub in-turn : mayPost o ≡ true

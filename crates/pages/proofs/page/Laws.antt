@@ -15,9 +15,9 @@ use Rattle.layout.specs.Verdict.{verdictOf}
 use Rattle.layout.specs.declared.holds.SetupPart.{SetupPart}
 use Rattle.layout.specs.declared.verdict.Verdict.the-variants.{Accepted, Declined}
 use Rattle.kinds.specs.Kind.{Row}
-use Rattle.layout.proofs.bytes.Placed.{placed-in}
+use Rattle.encoding.proofs.bytes.Placed.{placed-in}
 use Rattle.pages.proofs.tally.Laws.{tally-fresh, early, posted-finishes, posted-joins, set-up-free, post-begun, end-begun}
-use Rattle.layout.specs.Bytes.{placed}
+use Rattle.encoding.specs.Bytes.{placed}
 use Rattle.pages.specs.Page.{Page, pageOf, draftOf, freshDraft, freshPage, withPost, withPart, finished, posted, postOn, setUpOn, ended, Sound, Answers}
 use Rattle.pages.specs.Tally as tally
 use Rattle.pages.specs.Tally.{partOfKind, partChecks, setUpChecks, postAnswer, Counts}

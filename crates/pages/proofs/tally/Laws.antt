@@ -10,7 +10,7 @@ use lib.ListN.{length}
 use Rattle.amounts.specs.Decline.{Answer, taken, declined, Check, check, checked, onTaken, valueOr, noRoom}
 use Rattle.amounts.specs.declared.decline.Decline.{Decline}
 use Rattle.layout.proofs.Checked.{AllPass, passed, pass-both, pass-taken}
-use Rattle.layout.proofs.Each.{and-true}
+use Rattle.encoding.proofs.Each.{and-true}
 use Rattle.layout.proofs.verdict.Laws.{accepts, declines}
 use Rattle.layout.specs.Holds.{holdsOf}
 use Rattle.layout.specs.Outline.{mayPost, maySetUp, mayDescribe}

@@ -13,9 +13,9 @@ use lib.Dec.{ltb}
 use lib.ListN.{drop, set, replicate}
 use lib.Seq.{drop-drop}
 use borrow.Author.Tests.{lt-ltb, le-ltb}
-use Rattle.layout.specs.Bytes.{le, les}
-use Rattle.layout.specs.Each.{allTo, putTo}
-use Rattle.layout.proofs.Each.{put-again, fill-done, all-again, all-fails}
+use Rattle.encoding.specs.Bytes.{le, les}
+use Rattle.encoding.specs.Each.{allTo, putTo}
+use Rattle.encoding.proofs.Each.{put-again, fill-done, all-again, all-fails}
 
 -- ---- numbers of w bytes, one after the other
 

@@ -14,8 +14,8 @@ use Rattle.layout.specs.Outline.{mayPost}
 use Rattle.plant.specs.Setup.{noRates, materialsIn, stagesIn, classesIn, contentsIn, countedAll, setupChecks, freshSetup, setupOf, Rated, SoundSetup}
 use Rattle.layout.specs.declared.outline.Outline.{Outline}
 use Rattle.layout.proofs.Checked.{passed}
-use Rattle.layout.proofs.Each.{list-keeps}
-use Rattle.layout.proofs.bytes.Laws.{within-true}
+use Rattle.encoding.proofs.Each.{list-keeps}
+use Rattle.encoding.proofs.bytes.Laws.{within-true}
 
 -- each place of a list of one value has it
 pub same-at : {A : Type 0} (n i : ℕ) (a : A) → getD (replicate n a) i a ≡ a

@@ -10,8 +10,8 @@ use lib.Seq.{drop-drop}
 use lib.Dec.{eqb}
 use borrow.Author.Tests.{eq-eqb, ne-eqb, le-leb, lt-leb}
 use Rattle.amounts.specs.Decline.{taken, declined, isTaken, valueOr, layout}
-use Rattle.layout.specs.Bytes.{le, within}
-use Rattle.layout.specs.Each.{putTo}
+use Rattle.encoding.specs.Bytes.{le, within}
+use Rattle.encoding.specs.Each.{putTo}
 use Rattle.layout.specs.Outline.{withDescribed}
 use Rattle.plant.specs.Setup.{noRates}
 use Rattle.plant.specs.Stage.{secondOf, sewered, landfilled, waterRow, ratesAt, rateRow, withStage}

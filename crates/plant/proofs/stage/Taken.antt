@@ -16,7 +16,7 @@ use Rattle.layout.specs.declared.outline.Outline.{Outline}
 use Rattle.plant.specs.declared.setup.Rates.{Rates}
 use Rattle.plant.specs.declared.setup.Setup.{Setup}
 use Rattle.layout.proofs.Checked.{passed}
-use Rattle.layout.proofs.Each.{and-true, all-at, length-put, put-keeps}
+use Rattle.encoding.proofs.Each.{and-true, all-at, length-put, put-keeps}
 
 fit-rated : (side : Answer Bool) (r : Rates) → pairFits side r ≡ true → Rated r
 fit-rated side r e =

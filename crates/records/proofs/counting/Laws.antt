@@ -16,12 +16,12 @@ use Rattle.layout.specs.declared.verdict.Verdict.{Verdict}
 use Rattle.layout.specs.declared.verdict.Verdict.the-variants.{Accepted, Declined}
 use Rattle.kinds.specs.Kind.{Row}
 use Rattle.pages.specs.Calls as calls
-use Rattle.layout.specs.Bytes.{placed}
+use Rattle.encoding.specs.Bytes.{placed}
 use Rattle.pages.specs.Page as pages
 use Rattle.pages.specs.Page.{Page}
 use Rattle.pages.specs.Tally.{partOfKind, setUpChecks, postAnswer, finished, posted, ended, setUp, partOn, setUpOn, postOn, Sound, Counts}
 use Rattle.pages.specs.declared.tally.Tally.{Tally}
-use Rattle.layout.proofs.bytes.Placed.{placed-long, placed-out}
+use Rattle.encoding.proofs.bytes.Placed.{placed-long, placed-out}
 use Rattle.records.specs.Counting.{recordCounted}
 use Rattle.records.specs.Records.{Recorded, call, malformed, recordOf, tagOf, spanOf, bytesOf, firstOf}
 use Rattle.records.specs.Batch.{recordOn}

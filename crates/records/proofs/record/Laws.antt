@@ -6,7 +6,7 @@ use native.Mathlib.Omega.{arith}
 use native.Mathlib.Decide.{ℕ-discrete}
 use borrow.Author.Tests.{eq-eqb, ne-eqb, le-leb, lt-leb}
 use lib.ListN.{length, take, drop, length-drop}
-use Rattle.layout.specs.Bytes.{le, part}
+use Rattle.encoding.specs.Bytes.{le, part}
 use Rattle.pages.specs.Calls.{post, end}
 use Rattle.records.specs.Records.{Recorded, call, malformed, setUpOf, recordOf, tagOf, spanOf, bytesOf, firstOf, restOf, behind, recordsTo, recordsIn}
 

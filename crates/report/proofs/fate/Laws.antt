@@ -9,10 +9,10 @@ use lib.ListN.{getD}
 use Rattle.amounts.specs.Treatment.{partsOf}
 use Rattle.amounts.specs.declared.treatment.Parts.{Parts}
 use Rattle.amounts.proofs.treatment.Laws.{conserved}
-use Rattle.layout.specs.Each.{sumTo}
+use Rattle.encoding.specs.Each.{sumTo}
 use Rattle.plant.specs.declared.setup.Rates.{Rates}
 use Rattle.plant.specs.declared.setup.Setup.{Setup}
-use Rattle.layout.proofs.Each.{sum-again, sum-mono}
+use Rattle.encoding.proofs.Each.{sum-again, sum-mono}
 use Rattle.book.specs.Ledger.{total}
 use Rattle.plant.specs.Setup.{Rated, SoundSetup}
 use Rattle.book.proofs.ledger.Laws.{column, total-is}

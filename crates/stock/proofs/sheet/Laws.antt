@@ -14,7 +14,7 @@ use mir.Val.{Fits, SFits, toZ, ofZ}
 use mir.Facts.{toZ-pos, toZ-ofZ}
 use Rattle.amounts.specs.Decline.{taken, declined, check, checked, stockCount}
 use Rattle.amounts.proofs.decline.Laws.{one-taken}
-use Rattle.layout.proofs.Each.{and-true}
+use Rattle.encoding.proofs.Each.{and-true}
 use Rattle.plant.specs.declared.setup.Setup.{Setup}
 use Rattle.book.specs.Site.{Sound}
 use Rattle.book.specs.declared.site.Book.{Book}

@@ -8,8 +8,8 @@ use native.Mathlib.Omega.{arith}
 use borrow.Author.Tests.{le-leb, lt-leb}
 use lib.ListN.{length, take, drop, set, length-append, length-drop, take-append-drop}
 use lib.Seq.{take-at, drop-at, drop-drop, length-take-le, set-split, append-snoc}
-use Rattle.layout.specs.Bytes.{written, placed}
-use Rattle.layout.proofs.bytes.Placed.{placed-fits}
+use Rattle.encoding.specs.Bytes.{written, placed}
+use Rattle.encoding.proofs.bytes.Placed.{placed-fits}
 use Rattle.text.specs.Steps.{Room, Puts}
 use Rattle.text.specs.Writing.{triedIn, triedAnswer, Tries}
 use Rattle.text.specs.declared.writing.Written.the-variants.{At, NoRoom}

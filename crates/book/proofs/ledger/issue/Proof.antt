@@ -3,7 +3,7 @@ use mathlib.Core.Path.{_≡_, ap, _∙_}
 use Prim.Native.Nat.{_-_, _≤_}
 use native.Mathlib.Omega.{arith}
 use borrow.Author.Needs.{needs}
-use Rattle.layout.specs.Each.{putTo}
+use Rattle.encoding.specs.Each.{putTo}
 use Rattle.kinds.specs.Account.{held}
 use Rattle.book.specs.Ledger.{cellOf, raised, brings}
 use Rattle.book.proofs.ledger.Laws.{own-place, raised-room, raised-again}

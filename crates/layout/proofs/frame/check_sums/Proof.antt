@@ -11,9 +11,9 @@ use mir.Val.{toZ, ofZ}
 use mir.ValLaws.{toZ-pos}
 use borrow.Author.Needs.{needs}
 use denote.Ref.{now}
-use Rattle.layout.specs.Each.{sumTo}
+use Rattle.encoding.specs.Each.{sumTo}
 use Rattle.layout.specs.Frame.{plainSum, weightedSum}
-use Rattle.layout.proofs.Each.{sum-again}
+use Rattle.encoding.proofs.Each.{sum-again}
 use Rattle.layout.proofs.frame.Sums.{small, kept, added, weighed, first-terms}
 use Rattle.layout.proofs.frame.check_sums.Statement.{statement}
 use Rattle.layout.proofs.frame.check_sums.Tie as tie

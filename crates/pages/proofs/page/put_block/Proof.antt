@@ -1,5 +1,5 @@
 use mathlib.Core.Path.{refl, ap, _∙_}
-use Rattle.layout.specs.Bytes.{placed}
+use Rattle.encoding.specs.Bytes.{placed}
 use borrow.Author.Needs.{needs}
 use Rattle.pages.proofs.page.put_block.Statement.{statement}
 use Rattle.pages.proofs.page.put_block.Tie as tie

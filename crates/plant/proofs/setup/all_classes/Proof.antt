@@ -7,8 +7,8 @@ use lib.ListN.{length, getD}
 use borrow.Author.Needs.{needs}
 use borrow.Author.Tests.{not-true, not-false}
 use Rattle.amounts.specs.Class.{isClass}
-use Rattle.layout.specs.Each.{allTo}
-use Rattle.layout.proofs.Each.{all-again, all-done, all-fails}
+use Rattle.encoding.specs.Each.{allTo}
+use Rattle.encoding.proofs.Each.{all-again, all-done, all-fails}
 use Rattle.plant.proofs.setup.all_classes.Statement.{statement}
 use Rattle.plant.proofs.setup.all_classes.Tie as tie
 

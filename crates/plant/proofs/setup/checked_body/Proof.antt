@@ -1,5 +1,5 @@
 use mathlib.Core.Path.{ap, _∙_}
-use Rattle.layout.specs.Bytes.{within}
+use Rattle.encoding.specs.Bytes.{within}
 use Rattle.layout.proofs.verdict.Laws.{row-is}
 use borrow.Author.Needs.{needs}
 use Rattle.plant.proofs.setup.checked_body.Statement.{statement}

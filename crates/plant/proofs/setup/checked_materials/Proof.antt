@@ -2,7 +2,7 @@ use mathlib.Core.Path.{ap, ap₂, _∙_}
 use Prim.Native.Nat.{ℕ, _+_, _*_}
 use denote.Ref.{now}
 use lib.ListN.{drop}
-use Rattle.layout.specs.Bytes.{allZero}
+use Rattle.encoding.specs.Bytes.{allZero}
 use Rattle.plant.specs.Setup.{rowsFit}
 use Rattle.layout.proofs.verdict.Laws.{row-is, through}
 use borrow.Author.Needs.{needs}

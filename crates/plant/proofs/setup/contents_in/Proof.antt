@@ -4,7 +4,7 @@ use denote.Ref.{now}
 use Prim.Native.Nat.{_≤_, _-_}
 use native.Mathlib.Omega.{arith}
 use borrow.Author.Needs.{needs}
-use Rattle.layout.specs.Each.{putTo}
+use Rattle.encoding.specs.Each.{putTo}
 use Rattle.plant.proofs.setup.Laws.{filled, filled-again, filled-done}
 use Rattle.plant.proofs.setup.contents_in.Statement.{statement}
 use Rattle.plant.proofs.setup.contents_in.Tie as tie

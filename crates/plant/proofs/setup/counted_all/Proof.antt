@@ -8,8 +8,8 @@ use lib.ListN.{getD, replicate}
 use borrow.Author.Needs.{needs}
 use Rattle.amounts.specs.Content.{countedOf}
 use Rattle.amounts.specs.Decline.{valueOr}
-use Rattle.layout.specs.Each.{putTo}
-use Rattle.layout.proofs.Each.{put-again, fill-done}
+use Rattle.encoding.specs.Each.{putTo}
+use Rattle.encoding.proofs.Each.{put-again, fill-done}
 use Rattle.plant.proofs.setup.counted_all.Statement.{statement}
 use Rattle.plant.proofs.setup.counted_all.Tie as tie
 

@@ -5,9 +5,9 @@ use denote.Ref.{now}
 use Prim.Native.Nat.{_≤_, _-_}
 use native.Mathlib.Omega.{arith}
 use borrow.Author.Needs.{needs}
-use Rattle.layout.specs.Each.{allTo}
+use Rattle.encoding.specs.Each.{allTo}
 use Rattle.plant.specs.Setup.{before}
-use Rattle.layout.proofs.Each.{all-done}
+use Rattle.encoding.proofs.Each.{all-done}
 use Rattle.plant.proofs.setup.Laws.{rises, falls, rises-again}
 use Rattle.plant.proofs.setup.is_rising.Statement.{statement}
 use Rattle.plant.proofs.setup.is_rising.Tie as tie

@@ -5,9 +5,9 @@ use Prim.Native.Nat.{ℕ, _*_, _≤_, _-_}
 use native.Mathlib.Omega.{arith}
 use lib.ListN.{drop}
 use borrow.Author.Needs.{needs}
-use Rattle.layout.specs.Bytes.{le}
-use Rattle.layout.specs.Each.{sumTo}
-use Rattle.layout.proofs.Each.{sum-again}
+use Rattle.encoding.specs.Bytes.{le}
+use Rattle.encoding.specs.Each.{sumTo}
+use Rattle.encoding.proofs.Each.{sum-again}
 use Rattle.plant.proofs.setup.row_sum.Statement.{statement}
 use Rattle.plant.proofs.setup.row_sum.Tie as tie
 

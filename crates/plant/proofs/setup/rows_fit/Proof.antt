@@ -5,9 +5,9 @@ use denote.Ref.{now}
 use Prim.Native.Nat.{_*_, _≤_, _-_}
 use lib.ListN.{drop}
 use borrow.Author.Needs.{needs}
-use Rattle.layout.specs.Each.{allTo}
+use Rattle.encoding.specs.Each.{allTo}
 use Rattle.plant.specs.Setup.{rowFits}
-use Rattle.layout.proofs.Each.{all-again, all-done, all-fails}
+use Rattle.encoding.proofs.Each.{all-again, all-done, all-fails}
 use Rattle.layout.proofs.verdict.Laws.{holds, misses}
 use Rattle.plant.proofs.setup.rows_fit.Statement.{statement}
 use Rattle.plant.proofs.setup.rows_fit.Tie as tie

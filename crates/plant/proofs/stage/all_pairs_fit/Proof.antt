@@ -5,9 +5,9 @@ use denote.Ref.{now}
 use Prim.Native.Nat.{ℕ, _≤_, _-_}
 use borrow.Author.Needs.{needs}
 use Rattle.plant.specs.declared.setup.Rates.{Rates}
-use Rattle.layout.specs.Each.{allTo}
+use Rattle.encoding.specs.Each.{allTo}
 use Rattle.plant.specs.Stage.{secondOf, pairFits, sideRow, rateRow}
-use Rattle.layout.proofs.Each.{all-again, all-done, all-fails}
+use Rattle.encoding.proofs.Each.{all-again, all-done, all-fails}
 use Rattle.layout.proofs.verdict.Laws.{holds, misses}
 use Rattle.plant.proofs.stage.all_pairs_fit.Statement.{statement}
 use Rattle.plant.proofs.stage.all_pairs_fit.Tie as tie

@@ -4,8 +4,8 @@ use Prim.Native.Nat.{_+_, _≤_, _-_}
 use native.Mathlib.Omega.{arith}
 use denote.Ref.{now}
 use borrow.Author.Needs.{needs}
-use Rattle.layout.specs.Each.{putTo}
-use Rattle.layout.proofs.Each.{put-again}
+use Rattle.encoding.specs.Each.{putTo}
+use Rattle.encoding.proofs.Each.{put-again}
 use Rattle.plant.specs.Stage.{rateRow}
 use Rattle.plant.proofs.stage.rates_into.Statement.{statement}
 use Rattle.plant.proofs.stage.rates_into.Tie as tie

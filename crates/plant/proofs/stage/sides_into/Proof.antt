@@ -6,8 +6,8 @@ use native.Mathlib.Omega.{arith}
 use denote.Ref.{now}
 use borrow.Author.Needs.{needs}
 use Rattle.amounts.specs.Decline.{valueOr}
-use Rattle.layout.specs.Each.{putTo}
-use Rattle.layout.proofs.Each.{put-again}
+use Rattle.encoding.specs.Each.{putTo}
+use Rattle.encoding.proofs.Each.{put-again}
 use Rattle.plant.specs.Stage.{secondOf, waterRow}
 use Rattle.plant.proofs.stage.sides_into.Statement.{statement}
 use Rattle.plant.proofs.stage.sides_into.Tie as tie

@@ -6,7 +6,7 @@ use native.Mathlib.Omega.{arith}
 use denote.Ref.{now}
 use lib.ListN.{length, take, drop}
 use Rattle.layout.specs.declared.verdict.Verdict.the-variants.{Accepted}
-use Rattle.layout.proofs.bytes.Laws.{tail-is}
+use Rattle.encoding.proofs.bytes.Laws.{tail-is}
 use Rattle.records.specs.Records.{spanOf}
 use borrow.Author.Needs.{needs}
 use Rattle.pages.specs.Page.{Page, pageOf}

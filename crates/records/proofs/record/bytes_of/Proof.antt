@@ -1,7 +1,7 @@
 use mathlib.Core.Path.{ap, _∙_}
 use Prim.Native.Nat.{ℕ}
 use denote.Ref.{now}
-use Rattle.layout.specs.Bytes.{part}
+use Rattle.encoding.specs.Bytes.{part}
 use Rattle.records.proofs.record.Laws.{bytes-are}
 use borrow.Author.Needs.{needs}
 use Rattle.records.proofs.record.bytes_of.Statement.{statement}

@@ -4,8 +4,8 @@ use Prim.Native.Nat.{ℕ, _+_, _-_, _≤_}
 use native.Mathlib.Omega.{arith}
 use lib.ListN.{getD}
 use denote.Ref.{now}
-use Rattle.layout.specs.Each.{sumTo}
-use Rattle.layout.proofs.Each.{sum-again, term-le, sum-mono}
+use Rattle.encoding.specs.Each.{sumTo}
+use Rattle.encoding.proofs.Each.{sum-again, term-le, sum-mono}
 use Rattle.book.specs.Ledger.{brings}
 use Rattle.book.specs.Site.{storedTo}
 use Rattle.report.proofs.report.stored_of.Statement.{statement}

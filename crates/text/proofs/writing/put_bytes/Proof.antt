@@ -2,7 +2,7 @@ use mathlib.Core.Path.{ap, _∙_}
 use native.Mathlib.Omega.{arith}
 use denote.Ref.{now}
 use lib.ListN.{length}
-use Rattle.layout.proofs.bytes.Placed.{placed-long}
+use Rattle.encoding.proofs.bytes.Placed.{placed-long}
 use Rattle.text.proofs.writing.Laws.{puts-placed}
 use borrow.Author.Needs.{needs}
 use Rattle.text.proofs.writing.put_bytes.Statement.{statement}

@@ -7,10 +7,10 @@ use lib.Dec.{eqb}
 use lib.ListN.{length, getD}
 use borrow.Author.Needs.{needs}
 use borrow.Author.Tests.{eq-eqb, ne-eqb}
-use Rattle.layout.specs.Each.{allTo}
-use Rattle.layout.proofs.Each.{all-again, all-done, all-fails}
-use Rattle.layout.proofs.bytes.all_zero.Statement.{statement}
-use Rattle.layout.proofs.bytes.all_zero.Tie as tie
+use Rattle.encoding.specs.Each.{allTo}
+use Rattle.encoding.proofs.Each.{all-again, all-done, all-fails}
+use Rattle.encoding.proofs.bytes.all_zero.Statement.{statement}
+use Rattle.encoding.proofs.bytes.all_zero.Tie as tie
 
 abbrev Inv-loop : tie.InvT-loop
 Inv-loop s i₀ i = (i ≤ length s) × (allTo i (λ k. eqb (getD s k 0) 0) ≡ true)

@@ -2,8 +2,8 @@ use mathlib.Core.Path.{sym}
 use denote.Ref.{now}
 use lib.ListN.{List·getD-eq-default}
 use borrow.Author.Needs.{needs}
-use Rattle.layout.proofs.bytes.byte_at.Statement.{statement}
-use Rattle.layout.proofs.bytes.byte_at.Tie as tie
+use Rattle.encoding.proofs.bytes.byte_at.Statement.{statement}
+use Rattle.encoding.proofs.bytes.byte_at.Tie as tie
 
 shared-slice-read-result : tie.Need-shared-slice-read-result
 shared-slice-read-result c = search needs

@@ -7,7 +7,7 @@ use native.Mathlib.Omega.{arith}
 use borrow.Author.Tests.{le-leb, lt-leb}
 use lib.ListN.{length, take, drop, getD, set, length-append, length-drop}
 use lib.Seq.{length-take-le, take-length, paste, paste-suc}
-use Rattle.layout.specs.Bytes.{written, placed}
+use Rattle.encoding.specs.Bytes.{written, placed}
 
 -- where the bytes fit, and where they don't
 pub placed-fits : (l : List ℕ) (at : ℕ) (s : List ℕ) → at + length s ≤ length l → placed l at s ≡ written l at s

@@ -1,8 +1,8 @@
 use denote.Ref.{now}
-use Rattle.layout.proofs.bytes.Laws.{cut-is}
+use Rattle.encoding.proofs.bytes.Laws.{cut-is}
 use borrow.Author.Needs.{needs}
-use Rattle.layout.proofs.bytes.between.Statement.{statement}
-use Rattle.layout.proofs.bytes.between.Tie as tie
+use Rattle.encoding.proofs.bytes.between.Statement.{statement}
+use Rattle.encoding.proofs.bytes.between.Tie as tie
 
 lower-requires : tie.Need-lower-requires
 lower-requires c κs = search needs

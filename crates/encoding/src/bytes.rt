@@ -2,7 +2,7 @@
 ghost use mathlib.Core.Path.{_≡_};
 ghost use Prim.Native.Nat.{min, _<_};
 ghost use lib.ListN.{drop, getD};
-ghost use Rattle.layout.specs.Bytes.{le, part, within, allZero, placed};
+ghost use Rattle.encoding.specs.Bytes.{le, part, within, allZero, placed};
 
 fn wide(x: u8) -> u16
     ensures { λ r. ⌜ (r ≡ x) × (r < 256) ⌝ }
@@ -60,7 +60,7 @@ pub fn all_zero(s: &[u8]) -> bool
     true
 }
 
-pub(crate) fn lower(a: usize, b: usize) -> usize
+pub fn lower(a: usize, b: usize) -> usize
     ensures { λ r. ⌜ r ≡ min a b ⌝ }
 {
     if a < b { a } else { b }

@@ -1,8 +1,8 @@
 use mathlib.Core.Path.{ap, _∙_}
-use Rattle.layout.specs.Bytes.{allZero}
+use Rattle.encoding.specs.Bytes.{allZero}
 use borrow.Author.Needs.{needs}
-use Rattle.layout.proofs.bytes.zero_from.Statement.{statement}
-use Rattle.layout.proofs.bytes.zero_from.Tie as tie
+use Rattle.encoding.proofs.bytes.zero_from.Statement.{statement}
+use Rattle.encoding.proofs.bytes.zero_from.Tie as tie
 
 tail-requires : tie.Need-tail-requires
 tail-requires c κs = search needs

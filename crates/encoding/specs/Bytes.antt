@@ -4,7 +4,7 @@ use mathlib.Core.Bool.{Bool, _&&_, cond}
 use mathlib.Core.List.{List, [], _∷_, _++_}
 use lib.Dec.{eqb, leb}
 use lib.ListN.{length, getD, take, drop, replicate}
-use Rattle.layout.specs.Each.{allTo, listTo}
+use Rattle.encoding.specs.Each.{allTo, listTo}
 
 -- the number that the first n bytes are, the lowest first; a byte that is missing counts as 0
 unfoldable pub le : ℕ → List ℕ → ℕ

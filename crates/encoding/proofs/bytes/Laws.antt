@@ -10,8 +10,8 @@ use lib.Dec.{leb}
 use borrow.Author.Tests.{leb-true}
 use lib.ListN.{length, getD, take, drop, length-take, length-drop, drop-of-length-le, List·getD-eq-default}
 use lib.Seq.{drop-cons, drop-drop, take-all, length-take-le, ext-getD, getD-take}
-use Rattle.layout.specs.Bytes.{le, part, within}
-use Rattle.layout.proofs.Each.{and-true}
+use Rattle.encoding.specs.Bytes.{le, part, within}
+use Rattle.encoding.proofs.Each.{and-true}
 
 le-nil : (n : ℕ) → le n [] ≡ 0
 unfolding le

@@ -2,10 +2,10 @@ use mathlib.Core.Path.{_∙_}
 use native.Mathlib.Omega.{arith}
 use denote.Ref.{now}
 use lib.ListN.{length}
-use Rattle.layout.proofs.bytes.Laws.{tail-is, cut-is}
+use Rattle.encoding.proofs.bytes.Laws.{tail-is, cut-is}
 use borrow.Author.Needs.{needs}
-use Rattle.layout.proofs.bytes.tail.Statement.{statement}
-use Rattle.layout.proofs.bytes.tail.Tie as tie
+use Rattle.encoding.proofs.bytes.tail.Statement.{statement}
+use Rattle.encoding.proofs.bytes.tail.Tie as tie
 
 lower-requires : tie.Need-lower-requires
 lower-requires c κs = search needs

@@ -4,9 +4,9 @@ use native.Mathlib.Omega.{arith}
 use lib.ListN.{length, length-set}
 use lib.Seq.{paste, paste-zero}
 use denote.Ref.{now}
-use Rattle.layout.proofs.bytes.Placed.{placed-out, paste-more, paste-all}
-use Rattle.layout.proofs.bytes.put.Statement.{statement}
-use Rattle.layout.proofs.bytes.put.Tie as tie
+use Rattle.encoding.proofs.bytes.Placed.{placed-out, paste-more, paste-all}
+use Rattle.encoding.proofs.bytes.put.Statement.{statement}
+use Rattle.encoding.proofs.bytes.put.Tie as tie
 
 abbrev Inv-loop : tie.InvT-loop
 Inv-loop buffer₀ at s i₀ buffer i = (i ≤ length s) × (buffer ≡ paste buffer₀ at s i) × (length buffer ≡ length buffer₀)

@@ -8,7 +8,7 @@ use native.Mathlib.Numerals.{add-one}
 use native.Mathlib.Omega.{arith}
 use lib.ListN.{length, getD, set, replicate, length-append, length-set, length-replicate, List·getD-append, List·getD-eq-default}
 use lib.Seq.{ext-getD, getD-at, getD-set-same, getD-set-other}
-use Rattle.layout.specs.Each.{sumTo, allTo, listTo, putTo}
+use Rattle.encoding.specs.Each.{sumTo, allTo, listTo, putTo}
 
 -- ---- sums
 

@@ -1,10 +1,10 @@
 use mathlib.Core.Path.{sym}
 use denote.Ref.{now}
 use native.Mathlib.Omega.{arith}
-use Rattle.layout.proofs.bytes.Laws.{le-out, two}
+use Rattle.encoding.proofs.bytes.Laws.{le-out, two}
 use borrow.Author.Needs.{needs}
-use Rattle.layout.proofs.bytes.le16.Statement.{statement}
-use Rattle.layout.proofs.bytes.le16.Tie as tie
+use Rattle.encoding.proofs.bytes.le16.Statement.{statement}
+use Rattle.encoding.proofs.bytes.le16.Tie as tie
 
 returns : tie.Need-returns
 returns c = sym (le-out 2 (c .before .before .args .at) (now (c .before .before .args .s)) (c .if1 .taken))

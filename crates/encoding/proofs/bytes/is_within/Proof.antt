@@ -1,6 +1,6 @@
 use borrow.Author.Tests.{le-leb, lt-leb}
-use Rattle.layout.proofs.bytes.is_within.Statement.{statement}
-use Rattle.layout.proofs.bytes.is_within.Tie as tie
+use Rattle.encoding.proofs.bytes.is_within.Statement.{statement}
+use Rattle.encoding.proofs.bytes.is_within.Tie as tie
 
 returns : tie.Need-returns
 returns c = rw (lt-leb _ _ (c .if1 .taken))

@@ -1,0 +1,2 @@
+// Numbers, zero runs and parts in bytes of any length.
+pub mod bytes;
