@@ -1,10 +1,10 @@
 -- The ledger: one sum in micrograms for each account, stage and substance.
 use Prim.Native.Nat.{ℕ, zero, suc, _+_, _-_, _*_}
-use mathlib.Core.Bool.{Bool, true, false}
+use mathlib.Core.Bool.{Bool, false}
 use mathlib.Core.List.{List}
 use lib.ListN.{getD, set}
 use Rattle.encoding.specs.Each.{sumTo, putTo}
-use Rattle.kinds.specs.Account.{held, gas, water}
+use Rattle.kinds.specs.Account.{held, closesTo}
 
 -- the place of a sum: by account and pair, and by account, stage and substance
 abbrev pub at : ℕ → ℕ → ℕ
@@ -36,11 +36,6 @@ raised place amount l n = putTo place (λ k. getD l (place k) 0 + amount k) l n
 -- "g times counted content", of the material m and the substance s
 abbrev pub brings : List ℕ → ℕ → ℕ → ℕ → ℕ
 brings counted m g s = g * getD counted (m * 8 + s) 0
-
--- "Each holding moves to gas or waste water, by that pair's side", which is water or is not
-unfoldable pub closesTo : Bool → ℕ
-closesTo true = water
-closesTo false = gas
 
 -- the holdings of the pairs 0 .. k - 1 closed
 unfoldable pub settled : List ℕ → List Bool → ℕ → List ℕ

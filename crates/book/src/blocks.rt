@@ -1,6 +1,5 @@
 // A whole journal on a fresh book, whose lists are lent to each block in turn, so that no block copies the book.
 ghost use mathlib.Core.Path.{_≡_};
-ghost use Prim.Native.Nat.{_+_, _≤_, min};
 ghost use Rattle.book.specs.Site.{freshBook, bookWith, Sound};
 ghost use Rattle.book.specs.Steps.{yearWith};
 ghost use Rattle.book.specs.Blocks.{partsIn, readAll, read, refused, ended};
@@ -22,17 +21,6 @@ pub struct BlocksRead {
     pub verdict: Verdict,
     pub place: u32,
     pub book: Book,
-}
-
-// Where the part from a place on ends: 512 bytes on, or at the end of the journal.
-fn part_end(at: usize, length: usize) -> usize
-    requires { ⌜ at ≤ length ⌝ }
-    ensures { λ r. ⌜ r ≡ min (at + 512) length ⌝ }
-{
-    if length - at < 512 {
-        return length;
-    }
-    at + 512
 }
 
 fn refused_at(place: u32, decline: Decline) -> BlocksRead
@@ -88,7 +76,7 @@ pub fn take_blocks(journal: &[u8]) -> BlocksRead
     let mut blocks: u32 = 0;
     let mut at: usize = 0;
     while at < journal.len() {
-        let end = part_end(at, journal.len());
+        let end = frame::part_end(at, journal.len());
         let part = &journal[at..end];
         let held = match frame::read_frame(blocks, part) {
             HoldsRead::Declined(d) => return refused_at(blocks, d),

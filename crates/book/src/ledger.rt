@@ -3,10 +3,9 @@ ghost use mathlib.Core.Path.{_≡_};
 ghost use Prim.Native.Nat.{ℕ, _^_, _+_, _-_, _*_, _≤_, _<_};
 ghost use lib.ListN.{length, getD, set};
 ghost use Rattle.kinds.specs.Account.{held};
-ghost use Rattle.book.specs.Ledger.{cellOf, total, moved, raised, brings, closesTo, settled};
-use kinds::account::GAS;
+ghost use Rattle.book.specs.Ledger.{cellOf, total, moved, raised, brings, settled};
 use kinds::account::HELD;
-use kinds::account::WATER;
+use kinds::account::closes_to;
 
 // An amount goes from one sum to another.
 pub(crate) fn shift(sums: &mut [u64; 576], from: usize, to: usize, amount: u64)
@@ -49,12 +48,6 @@ pub(crate) fn issue(
         handled[s] = handled[s] + amount;
         s += 1;
     }
-}
-
-fn closes_to(water: bool) -> usize
-    ensures { λ x. ⌜ x ≡ closesTo water ⌝ }
-{
-    if water { WATER } else { GAS }
 }
 
 // Each holding goes to gas or to waste water, by its pair's side.

@@ -15,12 +15,12 @@ use Rattle.encoding.specs.Each.{sumTo}
 use Rattle.plant.specs.declared.setup.Rates.{Rates}
 use Rattle.plant.specs.declared.setup.Setup.{Setup}
 use Rattle.encoding.proofs.Each.{sum-same}
-use Rattle.kinds.specs.Account.{held, shipped, offSite, landfill, soil, consumed, gas, water, vapour}
+use Rattle.kinds.specs.Account.{held, shipped, offSite, landfill, soil, consumed, gas, water, vapour, closesTo}
 use Rattle.post.specs.declared.moves.Move.{Move}
 use Rattle.post.specs.declared.moves.Move.the-variants.{Received, Issued, Brought, Gone, Close}
 use Rattle.post.proofs.moves.Named.{comesTo, Named}
 use Rattle.book.specs.Entry.{enters, handles}
-use Rattle.book.specs.Ledger.{cell, closesTo}
+use Rattle.book.specs.Ledger.{cell}
 use Rattle.book.specs.Site.{Sound, bookWith}
 use Rattle.book.specs.declared.site.Book.{Book}
 use Rattle.report.specs.Fate.{cellsOf, fateFor, stageFate, fateTo, mapHeadings}

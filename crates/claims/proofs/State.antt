@@ -8,14 +8,14 @@ use lib.Dec.{eqb}
 use lib.ListN.{length, getD}
 use Rattle.encoding.specs.Each.{sumTo}
 use Rattle.encoding.proofs.Each.{sum-none}
-use Rattle.kinds.specs.Account.{held}
+use Rattle.kinds.specs.Account.{held, closesTo}
 use Rattle.post.specs.Steps.{Fits}
 use Rattle.post.specs.declared.moves.Move.{Move}
 use Rattle.post.specs.declared.moves.Move.the-variants.{Received, Issued, Brought, Gone, Close}
 use Rattle.post.proofs.moves.Named.{Named}
 use Rattle.post.specs.Moves.{closes}
 use Rattle.book.specs.Entry.{isThere, sumsAfter}
-use Rattle.book.specs.Ledger.{cell, closesTo}
+use Rattle.book.specs.Ledger.{cell}
 use Rattle.book.specs.Steps.{widest}
 use Rattle.book.proofs.ledger.Cells.{emptied, closed-to}
 use Rattle.claims.specs.Standing.{sumOver}

@@ -1,5 +1,6 @@
 -- The accounts of the ledger: a holding, and where an amount goes from it or comes to from outside (document 01, "Posts").
 use Prim.Native.Nat.{ℕ}
+use mathlib.Core.Bool.{Bool, true, false}
 
 abbrev pub held : ℕ
 held = 0
@@ -28,3 +29,8 @@ water = 7
 
 abbrev pub vapour : ℕ
 vapour = 8
+
+-- "Each holding moves to gas or waste water, by that pair's side", which is water or is not
+unfoldable pub closesTo : Bool → ℕ
+closesTo true = water
+closesTo false = gas

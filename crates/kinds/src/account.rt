@@ -1,4 +1,7 @@
 // The accounts of the ledger, by number.
+ghost use mathlib.Core.Path.{_≡_};
+ghost use Rattle.kinds.specs.Account.{closesTo};
+
 pub const HELD: usize = 0;
 
 pub const SHIPPED: usize = 1;
@@ -16,3 +19,10 @@ pub const GAS: usize = 6;
 pub const WATER: usize = 7;
 
 pub const VAPOUR: usize = 8;
+
+// Where the close moves a holding, by whether its side is water.
+pub fn closes_to(water: bool) -> usize
+    ensures { λ x. ⌜ x ≡ closesTo water ⌝ }
+{
+    if water { WATER } else { GAS }
+}

@@ -1,6 +1,6 @@
 // A block's frame: its tag, its check sums, its kind and its number.
 ghost use mathlib.Core.Path.{_≡_};
-ghost use Prim.Native.Nat.{_+_, _/_, _%_, _<_};
+ghost use Prim.Native.Nat.{_+_, _/_, _%_, _<_, min};
 ghost use lib.IntN.{pos};
 ghost use Rattle.amounts.specs.Decline.{checked};
 ghost use Rattle.layout.specs.Verdict.{verdictOf};
@@ -141,4 +141,14 @@ pub fn framed(block: [u8; 512], kind: u8, count: u8, number: u16) -> [u8; 512]
     ];
     bytes::put(&mut out, 508, &tail);
     out
+}
+
+// Where the part of a journal from a place on ends: 512 bytes on, or at the end of the journal.
+pub fn part_end(at: usize, length: usize) -> usize
+    ensures { λ r. ⌜ r ≡ min (at + 512) length ⌝ }
+{
+    if length < at {
+        return length;
+    }
+    if length - at < 512 { length } else { at + 512 }
 }

@@ -10,8 +10,8 @@ use lib.Dec.{eqb}
 use lib.ListN.{length, getD, set, length-set}
 use lib.Seq.{getD-set-same, getD-set-other}
 use Rattle.encoding.proofs.Each.{put-other}
-use Rattle.kinds.specs.Account.{held}
-use Rattle.book.specs.Ledger.{at, cellOf, cell, added, moved, raised, closesTo, settled}
+use Rattle.kinds.specs.Account.{held, closesTo}
+use Rattle.book.specs.Ledger.{at, cellOf, cell, added, moved, raised, settled}
 use Rattle.book.proofs.ledger.Laws.{closes-below, length-settled, raised-at, own-place}
 
 -- two places are one only where account, stage and substance are

@@ -10,8 +10,8 @@ use lib.ListN.{length, getD, set, length-set}
 use lib.Seq.{getD-set-same, getD-set-other}
 use Rattle.encoding.specs.Each.{sumTo, putTo}
 use Rattle.encoding.proofs.Each.{put-again, length-put, put-other, put-at, sum-same, sum-point, term-le}
-use Rattle.kinds.specs.Account.{held}
-use Rattle.book.specs.Ledger.{at, cellOf, cell, total, moved, raised, closesTo, settled}
+use Rattle.kinds.specs.Account.{held, closesTo}
+use Rattle.book.specs.Ledger.{at, cellOf, cell, total, moved, raised, settled}
 
 -- ---- one write
 

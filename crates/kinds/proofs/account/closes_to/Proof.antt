@@ -1,6 +1,6 @@
-use Rattle.book.specs.Ledger.{closesTo}
-use Rattle.book.proofs.ledger.closes_to.Statement.{statement}
-use Rattle.book.proofs.ledger.closes_to.Tie as tie
+use Rattle.kinds.specs.Account.{closesTo}
+use Rattle.kinds.proofs.account.closes_to.Statement.{statement}
+use Rattle.kinds.proofs.account.closes_to.Tie as tie
 
 returns : tie.Need-returns
 unfolding closesTo
