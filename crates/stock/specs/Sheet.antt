@@ -34,11 +34,11 @@ difference grams store = cond (ltb store grams) (plus (grams - store)) (cond (lt
 abbrev pub most : ℕ
 most = 8 * 10 ^ 12
 
--- 14 doesn't hold: the counted grams don't exceed it, and the material is in the book. "The book has its materials from the kind 1 block on, and none before it."
+-- what 14 asks: "the counted grams exceed 8×10^12 or the material isn't in the book", which has its materials from the kind 1 block on, is not so
 abbrev pub mayCount : ℕ → ℕ → ℕ → Bool
 mayCount materials material grams = leb grams most && ltb material materials
 
--- of a book's materials and its store of each: 14 is "the only one for this call"
+-- by how many materials a book has and its store of each: 14 is "the only one for this call"
 unfoldable pub stockFrom : ℕ → (ℕ → ℕ) → ℕ → ℕ → Answer ℤ
 unfolding checked difference
 stockFrom materials storeOf material grams =

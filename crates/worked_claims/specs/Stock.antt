@@ -4,7 +4,7 @@ use mathlib.Core.Path.{_≡_}
 use mathlib.Core.Bool.{false}
 use mathlib.Core.List.{List, [], _∷_}
 use lib.ListN.{replicate}
-use Rattle.amounts.specs.Decline.{taken, declined, stockCount}
+use Rattle.amounts.specs.Decline.{taken, declined}
 use Rattle.plant.specs.Setup.{freshSetup}
 use Rattle.plant.specs.declared.setup.Setup.{Setup}
 use Rattle.book.specs.Site.{bookWith}
@@ -20,8 +20,8 @@ SheetOfMet =
     × (stockOf bookMet 0 899 ≡ taken (minus 1))
     × (stockOf bookMet 0 0 ≡ taken (minus 900))
     × (stockOf bookMet 0 most ≡ taken (plus 7999999999100))
-    × (stockOf bookMet 0 (most + 1) ≡ declined stockCount)
-    × (stockOf bookMet 1 900 ≡ declined stockCount)
+    × (stockOf bookMet 0 (most + 1) ≡ declined 14)
+    × (stockOf bookMet 1 900 ≡ declined 14)
 
 -- a gram more in store than 4,000 posts bring
 abbrev pub oneMaterial : Setup
