@@ -1,6 +1,6 @@
 -- What a move does to a year (document 01, "Posts", "Treatment and report", and decline 11; document 02, (b)), by its cases.
 use Prim.Native.Nat.{ℕ, _+_, _-_}
-use mathlib.Core.Bool.{Bool, true, false, cond}
+use mathlib.Core.Bool.{Bool, true, cond}
 use mathlib.Core.List.{List}
 use lib.Dec.{eqb, leb}
 use lib.ListN.{getD, set}

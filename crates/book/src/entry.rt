@@ -1,5 +1,4 @@
 // A move entered in the lists of a year, which are lent together.
-ghost use mathlib.Core.Path.{_≡_};
 ghost use Rattle.book.specs.Steps.{Room, Entered};
 use crate::ledger;
 use kinds::account::HELD;

@@ -1,15 +1,13 @@
 -- The sheet of a book is the one that the accepted posts give. Assumes nothing.
-use mathlib.Core.Path.{_≡_, refl, sym, ap, _∙_}
-use mathlib.Core.Bool.{Bool, true, false}
-use Prim.Native.Nat.{ℕ, _+_, _-_, _≤_, _<_}
+use mathlib.Core.Path.{_≡_, refl}
+use Prim.Native.Nat.{ℕ, _+_, _<_}
 use native.Mathlib.Omega.{arith}
 use lib.ListN.{getD}
 use Rattle.book.specs.Site.{freshBook}
 use Rattle.book.specs.declared.site.Book.{Book}
-use Rattle.stock.specs.Sheet.{stockFrom, stockOf}
 use Rattle.stock.proofs.sheet.Laws.{same-sheet}
 use Rattle.claims.specs.Stock.{materialsOf, receivedAs, issuedAs, received, issued, storeOf, StockByPosts}
-use Rattle.claims.specs.Standing.{Standing, standing, run, numbersOf, movesOf, sumOver}
+use Rattle.claims.specs.Standing.{Standing, standing, run, numbersOf}
 use Rattle.claims.proofs.ByKind.{Agrees, of-posts}
 use Rattle.claims.proofs.Stores.{comes, goes}
 use Rattle.claims.proofs.Tells.{Tells, tells-run, materials-are}

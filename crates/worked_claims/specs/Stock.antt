@@ -1,8 +1,8 @@
 -- Counts on the worked book, in which 1,000 g were bought and 100 g issued of its one material, and on a book that no call makes (document 02, (d)).
-use Prim.Native.Nat.{ℕ, _+_}
+use Prim.Native.Nat.{_+_}
 use mathlib.Core.Path.{_≡_}
 use mathlib.Core.Bool.{false}
-use mathlib.Core.List.{List, [], _∷_}
+use mathlib.Core.List.{_∷_}
 use lib.ListN.{replicate}
 use Rattle.amounts.specs.Decline.{taken, declined}
 use Rattle.plant.specs.Setup.{freshSetup}
