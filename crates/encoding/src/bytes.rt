@@ -60,6 +60,7 @@ pub fn all_zero(s: &[u8]) -> bool
     true
 }
 
+// The lower of two places.
 pub fn lower(a: usize, b: usize) -> usize
     ensures { λ r. ⌜ r ≡ min a b ⌝ }
 {

@@ -12,13 +12,13 @@ use book::site::Book;
 // The grams that no count may exceed, and no store does.
 const MOST: u64 = 8_000_000_000_000;
 
-// Counted less store, in grams.
+// How many grams more were counted than are in store, below 0 where fewer were; or why they aren't compared.
 pub enum Difference {
     Grams(i64),
     Declined(Decline),
 }
 
-// Two numbers of grams of which neither is above the most, so that both are signed ones too.
+// Counted less store, of grams that are so few that signed numbers hold them.
 fn less(grams: u64, store: u64) -> i64
     requires { ⌜ (grams ≤ most) × (store ≤ most) ⌝ }
     ensures { λ r. ⌜ r ≡ difference grams store ⌝ }
@@ -36,7 +36,7 @@ pub fn magnitude(grams: i64) -> u64
     grams as u64
 }
 
-// How much more than the book's store was counted of the material at a place, from 0.
+// The grams counted of the material at a place, from 0, against the book's store of it.
 pub fn difference_of(b: Book, material: usize, grams: u64) -> Difference
     requires { ⌜ Sound b ⌝ }
     ensures { λ r. ⌜ answer r ≡ stockOf b material grams ⌝ }
