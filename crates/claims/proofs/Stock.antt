@@ -6,7 +6,7 @@ use lib.ListN.{getD}
 use Rattle.book.specs.Site.{freshBook}
 use Rattle.book.specs.declared.site.Book.{Book}
 use Rattle.stock.proofs.sheet.Laws.{same-sheet}
-use Rattle.claims.specs.Stock.{materialsOf, receivedAs, issuedAs, received, issued, storeOf, StockByPosts}
+use Rattle.claims.specs.Stock.{materialsOf, receivedAs, issuedAs, gramsReceived, gramsIssued, storeOf, StockByPosts}
 use Rattle.claims.specs.Standing.{Standing, standing, run, numbersOf}
 use Rattle.claims.proofs.ByKind.{Agrees, of-posts}
 use Rattle.claims.proofs.Stores.{comes, goes}
@@ -37,7 +37,7 @@ going m =
 
 module _ (w : Standing) (b : Book) (h : Tells w b) (m : ℕ) (known : m < materialsOf w) where
   -- the store and what was issued are what came
-  store-is : getD (b .year .store) m 0 + issued w m ≡ received w m
+  store-is : getD (b .year .store) m 0 + gramsIssued w m ≡ gramsReceived w m
   store-is =
       let few = h .sound .setup .materials-few in
       let row : m < 12 = omega (arith, materials-are w b h) in

@@ -38,18 +38,18 @@ issuedAs m kinds.formed p = 0
 issuedAs m kinds.found p = 0
 issuedAs m kinds.other p = 0
 
-abbrev pub received : Standing → ℕ → ℕ
-received w m = sumPosts (receivedAs m) (w .posts)
+abbrev pub gramsReceived : Standing → ℕ → ℕ
+gramsReceived w m = sumPosts (receivedAs m) (w .posts)
 
-abbrev pub issued : Standing → ℕ → ℕ
-issued w m = sumPosts (issuedAs m) (w .posts)
+abbrev pub gramsIssued : Standing → ℕ → ℕ
+gramsIssued w m = sumPosts (issuedAs m) (w .posts)
 
 abbrev pub storeOf : Standing → ℕ → ℕ
-storeOf w m = received w m - issued w m
+storeOf w m = gramsReceived w m - gramsIssued w m
 
 -- the sheet of a material: no more was issued than came, and each answer is the one that the posts give
 pub record SheetSaid (calls : List Call) (m : ℕ) : Type 0 where
-  pub covered : m < materialsOf (standing calls) → issued (standing calls) m ≤ received (standing calls) m
+  pub covered : m < materialsOf (standing calls) → gramsIssued (standing calls) m ≤ gramsReceived (standing calls) m
   pub answers : (grams : ℕ) → stockOf (run freshBook calls) m grams ≡ stockFrom (materialsOf (standing calls)) (storeOf (standing calls)) m grams
 
 -- for every list of calls given in turn to a fresh book, every material and every number of grams

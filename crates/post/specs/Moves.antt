@@ -74,7 +74,7 @@ moveAt o numbers s = onTaken (wellFormed o s) (λ k. moveIn k numbers (postAt s)
 abbrev pub said : List ℕ → List ℕ → Move
 said numbers s = valueOr Close (onTaken (kindOf (postAt s .kind)) (λ k. moveIn k numbers (postAt s)))
 
--- "13 close: .. and no post follows"
+-- 13: "and no post follows"
 abbrev pub closes : Move → Bool
 closes (Received m g) = false
 closes (Issued m stage g) = false

@@ -34,7 +34,7 @@ difference grams store = cond (ltb store grams) (plus (grams - store)) (cond (lt
 abbrev pub most : ℕ
 most = 8 * 10 ^ 12
 
--- what 14 asks: "the counted grams exceed 8×10^12 or the material isn't in the book", which has its materials from the kind 1 block on, is not so
+-- that it is not so: "the counted grams exceed 8×10^12 or the material isn't in the book". A book has its materials from the kind 1 block on.
 abbrev pub mayCount : ℕ → ℕ → ℕ → Bool
 mayCount materials material grams = leb grams most && ltb material materials
 

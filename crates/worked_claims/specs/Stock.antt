@@ -23,7 +23,7 @@ SheetOfMet =
     × (stockOf bookMet 0 (most + 1) ≡ declined 14)
     × (stockOf bookMet 1 900 ≡ declined 14)
 
--- a gram more in store than 4,000 posts bring
+-- a set-up of one material, with its one stage described
 abbrev pub oneMaterial : Setup
 oneMaterial =
     record {
@@ -37,6 +37,7 @@ oneMaterial =
       rates = freshSetup .rates;
     }
 
+-- a gram more in store than 4,000 posts bring
 abbrev pub overfull : Book
 overfull =
     bookWith oneMaterial (record { store = (most + 1) ∷ replicate 11 0; sums = replicate 576 0; handled = replicate 8 0; posts = 4000; closed = false }) 3
