@@ -5,7 +5,7 @@ ghost use Rattle.amounts.specs.Content.{counted_from, counted_of, answer};
 use crate::decline::Decline;
 use crate::{class, decline};
 
-#[derive(Drop)]
+#[derive(Clone, Copy)]
 pub enum Counted {
     Content(u32),
     Declined(Decline),

@@ -1,7 +1,7 @@
 // Why a call is declined, by document 01's number.
 
 // The number is a value and no variant, so that a number that comes later reopens no proof.
-#[derive(Drop)]
+#[derive(Clone, Copy)]
 pub struct Decline {
     pub number: u8,
 }

@@ -3,14 +3,14 @@ ghost use Rattle.std.specs.Prelude.{◌≡◌};
 ghost use Rattle.amounts.specs.Filed.{case_of, step_of, filed_of};
 
 // A case of rounding: its number, from 0, and its step in micrograms.
-#[derive(Drop)]
+#[derive(Clone, Copy)]
 pub struct Case {
     pub number: u8,
     pub step: u64,
 }
 
 // A case as it stands in a line: its number and its step.
-#[derive(Drop)]
+#[derive(Clone, Copy)]
 struct Numbered(u8, u64);
 
 // The case of an amount in micrograms: that of the last bound which it reaches.

@@ -5,7 +5,7 @@ ghost use Rattle.amounts.specs.Threshold.{due_from, due_of, answer};
 use crate::decline::Decline;
 use crate::{class, decline};
 
-#[derive(Drop)]
+#[derive(Clone, Copy)]
 pub enum Due {
     Yes,
     No,

@@ -6,14 +6,14 @@ use crate::decline;
 use crate::decline::Decline;
 
 // In micrograms.
-#[derive(Drop)]
+#[derive(Clone, Copy)]
 pub struct Parts {
     pub released: u64,
     pub destroyed: u64,
     pub residue: u64,
 }
 
-#[derive(Drop)]
+#[derive(Clone, Copy)]
 pub enum Split {
     Into(Parts),
     Declined(Decline),

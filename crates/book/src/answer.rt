@@ -7,7 +7,7 @@ use crate::site::Book;
 use amounts::decline::Decline;
 use layout::verdict::Verdict;
 
-#[derive(Drop)]
+#[derive(Clone, Copy)]
 pub struct Answered {
     pub verdict: Verdict,
     pub book: Book,

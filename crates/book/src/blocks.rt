@@ -16,7 +16,7 @@ use plant::setup::Setup;
 
 // Accepted, with as many blocks as the journal has and the book after the last; or why a block was declined, with its place from 0 and a
 // fresh book.
-#[derive(Drop)]
+#[derive(Clone, Copy)]
 pub struct BlocksRead {
     pub verdict: Verdict,
     pub place: u32,

@@ -20,7 +20,7 @@ use post::moves;
 use post::moves::MoveRead;
 
 // What a run answers, with the posts then counted and whether the close is among them.
-#[derive(Drop)]
+#[derive(Clone, Copy)]
 pub struct RunEnd {
     pub verdict: Verdict,
     pub posts: u32,

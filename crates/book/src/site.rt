@@ -7,7 +7,7 @@ use plant::setup::Setup;
 
 // The store in grams by material; the ledger's sums in micrograms, at account * 64 + stage * 8 + substance; what was handled of each
 // substance; the posts accepted; and whether the close is among them.
-#[derive(Drop)]
+#[derive(Clone, Copy)]
 pub struct Year {
     pub store: [u64; 12],
     pub sums: [u64; 576],
@@ -16,7 +16,7 @@ pub struct Year {
     pub closed: bool,
 }
 
-#[derive(Drop)]
+#[derive(Clone, Copy)]
 pub struct Book {
     pub(crate) setup: Setup,
     pub(crate) year: Year,

@@ -1,2 +1,4 @@
 // Numbers, zero runs and parts in bytes of any length.
+#![tactic(auto)]
+
 pub mod bytes;

@@ -1,4 +1,6 @@
 // The return of a journal: reads the journal from standard input and prints the return.
+#![tactic(auto)]
+
 ghost use Rattle.book.specs.Site.{Sound};
 
 use journal::reading;
@@ -8,7 +10,7 @@ use streams::{input, output, trouble};
 use text::writing::Written;
 
 // What was read up to the end of the input or to the first decline, or to a read that failed.
-#[derive(Drop)]
+#[derive(Clone, Copy)]
 struct Journal {
     reading: Reading,
     is_read: bool,

@@ -9,7 +9,7 @@ use crate::pattern::{FloatRead, Range};
 use amounts::decline;
 use amounts::decline::Decline;
 
-#[derive(Drop)]
+#[derive(Clone, Copy)]
 pub enum LossForm {
     FloatingRoof {
         diameter: f64,
@@ -30,7 +30,7 @@ pub enum LossForm {
     },
 }
 
-#[derive(Drop)]
+#[derive(Clone, Copy)]
 struct Ranges {
     w: Range,
     u: Range,
@@ -38,7 +38,7 @@ struct Ranges {
     q: Range,
 }
 
-#[derive(Drop)]
+#[derive(Clone, Copy)]
 struct Inputs {
     w: f64,
     u: f64,
@@ -46,13 +46,13 @@ struct Inputs {
     q: f64,
 }
 
-#[derive(Drop)]
+#[derive(Clone, Copy)]
 enum InputsRead {
     Values(Inputs),
     Declined(Decline),
 }
 
-#[derive(Drop)]
+#[derive(Clone, Copy)]
 pub enum FormRead {
     Form(LossForm),
     Declined(Decline),

@@ -8,13 +8,13 @@ use amounts::decline;
 use amounts::decline::Decline;
 
 // Both ends belong to a range.
-#[derive(Drop)]
+#[derive(Clone, Copy)]
 pub struct Range {
     pub low: f64,
     pub high: f64,
 }
 
-#[derive(Drop)]
+#[derive(Clone, Copy)]
 pub enum FloatRead {
     Value(f64),
     Declined(Decline),

@@ -11,13 +11,13 @@ use layout::verdict::Verdict;
 use text::print;
 use text::writing::Written;
 
-#[derive(Drop)]
+#[derive(Clone, Copy)]
 pub enum Stopped {
     No,
     By(Decline),
 }
 
-#[derive(Drop)]
+#[derive(Clone, Copy)]
 pub struct Reading {
     book: Book,
     stopped: Stopped,

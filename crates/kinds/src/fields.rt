@@ -5,7 +5,7 @@ ghost use Rattle.kinds.specs.Fields.{post_at};
 use encoding::bytes;
 
 // Floats are kept as bit patterns. In kind 12 the form stands in the material's place.
-#[derive(Drop)]
+#[derive(Clone, Copy)]
 pub struct Post {
     pub kind: u8,
     pub material: u8,

@@ -12,13 +12,13 @@ use amounts::decline::Decline;
 use layout::outline::Outline;
 
 // The numbers from one up to another, which is not among them.
-#[derive(Drop)]
+#[derive(Clone, Copy)]
 pub struct Span {
     pub from: u64,
     pub end: u64,
 }
 
-#[derive(Drop)]
+#[derive(Clone, Copy)]
 pub struct Limits {
     pub material: Span,
     pub stage: Span,
@@ -28,7 +28,7 @@ pub struct Limits {
 }
 
 // How a kind's amount is had: its quantity as stated, its quantity times its content, or the loss of its floats.
-#[derive(Drop)]
+#[derive(Clone, Copy)]
 pub enum Measure {
     Quantity,
     Content,
@@ -36,7 +36,7 @@ pub enum Measure {
 }
 
 // What a kind does with its amount; an account is named by its number.
-#[derive(Drop)]
+#[derive(Clone, Copy)]
 pub enum Does {
     Receives,
     Issues,
@@ -45,14 +45,14 @@ pub enum Does {
     Closes,
 }
 
-#[derive(Drop)]
+#[derive(Clone, Copy)]
 pub struct Kind {
     pub limits: Limits,
     pub measure: Measure,
     pub does: Does,
 }
 
-#[derive(Drop)]
+#[derive(Clone, Copy)]
 pub enum KindRead {
     Known(Kind),
     Declined(Decline),

@@ -12,7 +12,7 @@ use amounts::decline;
 use encoding::bytes;
 
 // The sum of bytes, and of each byte times its place from 1, both modulo 65,521.
-#[derive(Drop)]
+#[derive(Clone, Copy)]
 pub struct CheckSums {
     pub plain: u16,
     pub weighted: u16,

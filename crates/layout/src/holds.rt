@@ -7,19 +7,19 @@ use amounts::decline;
 use amounts::decline::Decline;
 
 // The substances and materials, or a stage.
-#[derive(Drop)]
+#[derive(Clone, Copy)]
 pub enum SetupPart {
     Materials,
     Stage,
 }
 
-#[derive(Drop)]
+#[derive(Clone, Copy)]
 pub enum Holds {
     SetUp(SetupPart),
     Posts,
 }
 
-#[derive(Drop)]
+#[derive(Clone, Copy)]
 pub enum HoldsRead {
     Known(Holds),
     Declined(Decline),

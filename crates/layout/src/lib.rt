@@ -1,4 +1,6 @@
 // What a block's frame and the bodies of its kinds say, their turns and limits, without a book.
+#![tactic(auto)]
+
 pub mod frame;
 pub mod holds;
 pub mod outline;

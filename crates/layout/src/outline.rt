@@ -2,7 +2,7 @@
 ghost use Rattle.std.specs.Prelude.{◌≡◌};
 ghost use Rattle.layout.specs.Outline.{fresh_outline, may_set_up, may_describe, may_post};
 
-#[derive(Drop)]
+#[derive(Clone, Copy)]
 pub struct Outline {
     pub substances: u8,
     pub materials: u8,

@@ -3,7 +3,7 @@ ghost use Rattle.std.specs.Prelude.{cond, ◌≡◌};
 
 use amounts::decline::Decline;
 
-#[derive(Drop)]
+#[derive(Clone, Copy)]
 pub enum Verdict {
     Accepted,
     Declined(Decline),

@@ -3,20 +3,20 @@ ghost use Rattle.std.specs.Prelude.{◌≡◌};
 ghost use Rattle.losses.specs.Coefficient.{row_of, answer};
 
 // k, and the molecular weight M.
-#[derive(Drop)]
+#[derive(Clone, Copy)]
 pub struct CoefficientRow {
     pub k: f64,
     pub m: f64,
 }
 
-#[derive(Drop)]
+#[derive(Clone, Copy)]
 pub struct Entry {
     pub number: u16,
     pub row: CoefficientRow,
 }
 
 // A row, and whether it is one of the table's. The flag is as wide as a float, so that no byte is unused and each field is copied by itself.
-#[derive(Drop)]
+#[derive(Clone, Copy)]
 pub struct RowRead {
     pub known: u64,
     pub row: CoefficientRow,

@@ -12,13 +12,13 @@ use amounts::decline::Decline;
 use forms::form;
 use forms::form::{FormRead, LossForm};
 
-#[derive(Drop)]
+#[derive(Clone, Copy)]
 enum Kg {
     Value(f64),
     Declined(Decline),
 }
 
-#[derive(Drop)]
+#[derive(Clone, Copy)]
 pub enum Loss {
     Micrograms(u64),
     Declined(Decline),

@@ -5,7 +5,7 @@ ghost use Rattle.pages.specs.Page.{fresh_draft};
 use crate::tally::Tally;
 
 // How far the writer has come, and the block with the posts that wait.
-#[derive(Drop)]
+#[derive(Clone, Copy)]
 pub struct Draft {
     pub(crate) tally: Tally,
     pub(crate) block: [u8; 512],

@@ -18,7 +18,7 @@ use layout::verdict::Verdict;
 const BLOCK_SIZE: usize = 512;
 
 // What a call answers, and the filled length and the block being filled after it.
-#[derive(Drop)]
+#[derive(Clone, Copy)]
 pub struct Taken {
     pub verdict: Verdict,
     pub filled: usize,

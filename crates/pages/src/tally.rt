@@ -18,7 +18,7 @@ use plant::{setup, stage};
 use post::moves;
 
 // The outline of the set-up blocks that are written, the posts that wait for their block, and the blocks that are written.
-#[derive(Drop)]
+#[derive(Clone, Copy)]
 pub struct Tally {
     pub(crate) outline: Outline,
     pub(crate) waiting: usize,
@@ -26,7 +26,7 @@ pub struct Tally {
 }
 
 // What a call answers, and how far the writer has come after it.
-#[derive(Drop)]
+#[derive(Clone, Copy)]
 pub struct Counted {
     pub verdict: Verdict,
     pub tally: Tally,

@@ -14,7 +14,7 @@ use layout::outline::Outline;
 use layout::verdict::{Verdict, row};
 
 // A pair's rates in ppm, of a stage and a substance.
-#[derive(Drop)]
+#[derive(Clone, Copy)]
 pub struct Rates {
     pub gas_removal: u32,
     pub gas_destruction: u32,
@@ -25,7 +25,7 @@ pub struct Rates {
 // What the set-up blocks say. Contents are kept as counted: for the material m and the substance s at m * 8 + s. A pair's side, water
 // or gas, and its rates stand at stage * 8 + substance. A stage's treated water goes to the sewer or to public water, its residues to
 // landfill or off site. Of a stage that isn't described yet the flags are false and the rates 0.
-#[derive(Drop)]
+#[derive(Clone, Copy)]
 pub struct Setup {
     pub outline: Outline,
     pub numbers: [u16; 8],
@@ -38,7 +38,7 @@ pub struct Setup {
 }
 
 // What a set-up block answers, with the set-up after it where it is accepted, and else the one given in.
-#[derive(Drop)]
+#[derive(Clone, Copy)]
 pub struct SetupEnd {
     pub verdict: Verdict,
     pub setup: Setup,

@@ -22,7 +22,7 @@ use losses::loss::Loss;
 
 // Received into a store; issued from a store to a stage's holdings; brought to an account from outside; gone from a holding to an
 // account; the close. Grams of a material, micrograms of a substance.
-#[derive(Drop)]
+#[derive(Clone, Copy)]
 pub enum Move {
     Received {
         material: usize,
@@ -49,20 +49,20 @@ pub enum Move {
 }
 
 // A post in its layout: its fields, how its amount is measured, and what it does.
-#[derive(Drop)]
+#[derive(Clone, Copy)]
 struct Laid {
     post: Post,
     measure: Measure,
     does: Does,
 }
 
-#[derive(Drop)]
+#[derive(Clone, Copy)]
 enum LaidRead {
     Known(Laid),
     Declined(Decline),
 }
 
-#[derive(Drop)]
+#[derive(Clone, Copy)]
 pub enum MoveRead {
     Known(Move),
     Declined(Decline),

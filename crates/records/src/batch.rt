@@ -8,14 +8,14 @@ use layout::verdict::Verdict;
 use pages::{page, tally};
 
 // How many bytes of the buffer are filled; or why a record wasn't taken, by the decline's number or 255, and its place from 0.
-#[derive(Drop)]
+#[derive(Clone, Copy)]
 pub enum WriteEnd {
     Written(usize),
     Stopped { number: u8, place: usize },
 }
 
 // The first record that isn't taken.
-#[derive(Drop)]
+#[derive(Clone, Copy)]
 enum Stop {
     At { number: u8, place: usize },
     Nowhere,

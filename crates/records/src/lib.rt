@@ -1,4 +1,6 @@
 // Journals from a list of records in memory: each record a call of a writer.
+#![tactic(auto)]
+
 pub mod batch;
 pub mod call;
 mod counting;

@@ -15,7 +15,7 @@ use streams::record::Record;
 use streams::{output, trouble};
 
 // The book after a record, and whether another may follow.
-#[derive(Drop)]
+#[derive(Clone, Copy)]
 pub(crate) struct State {
     pub(crate) book: Book,
     pub(crate) output: Output,

@@ -1,4 +1,6 @@
 // A list of calls from standard input, each on the book that the one before it left: a line for each.
+#![tactic(auto)]
+
 mod call;
 mod line;
 

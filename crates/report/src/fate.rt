@@ -12,7 +12,7 @@ use kinds::account;
 use plant::setup::Setup;
 
 // In micrograms.
-#[derive(Drop)]
+#[derive(Clone, Copy)]
 pub struct Headings {
     pub air: u64,
     pub water: u64,
@@ -22,7 +22,7 @@ pub struct Headings {
     pub offsite: u64,
 }
 
-#[derive(Drop)]
+#[derive(Clone, Copy)]
 pub struct Fate {
     pub held: u64,
     pub shipped: u64,
@@ -32,7 +32,7 @@ pub struct Fate {
 }
 
 // What a stage's accounts hold of a substance.
-#[derive(Drop)]
+#[derive(Clone, Copy)]
 struct Cells {
     held: u64,
     shipped: u64,

@@ -17,14 +17,14 @@ use book::site;
 use book::site::{Book, Year};
 use plant::setup::Setup;
 
-#[derive(Drop)]
+#[derive(Clone, Copy)]
 pub enum Filing {
     Figures(Headings),
     NotDue,
 }
 
 // Amounts are in micrograms.
-#[derive(Drop)]
+#[derive(Clone, Copy)]
 pub struct Report {
     pub posts: u32,
     pub number: u16,
@@ -35,7 +35,7 @@ pub struct Report {
     pub filed: Filing,
 }
 
-#[derive(Drop)]
+#[derive(Clone, Copy)]
 pub enum Reported {
     Known(Report),
     Declined(Decline),

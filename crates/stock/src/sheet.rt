@@ -12,7 +12,7 @@ use book::site::Book;
 const MOST: u64 = 8_000_000_000_000;
 
 // How many grams more were counted than are in store, below 0 where fewer were; or why they aren't compared.
-#[derive(Drop)]
+#[derive(Clone, Copy)]
 pub enum Difference {
     Grams(i64),
     Declined(Decline),

@@ -6,7 +6,7 @@ ghost use Rattle.streams.specs.Input.{most_parts, was_interrupted, Behind, progr
 use libc::STDIN_FILENO;
 
 // What became of a part that was asked for: all its bytes, the last few before the end, the end, or an input that can't be read.
-#[derive(Drop)]
+#[derive(Clone, Copy)]
 pub enum Part {
     Full,
     Short(usize),
@@ -15,19 +15,19 @@ pub enum Part {
 }
 
 // How many parts may still be asked for: a program ends, and nothing says that its input does.
-#[derive(Drop)]
+#[derive(Clone, Copy)]
 pub struct Input {
     left: u64,
 }
 
-#[derive(Drop)]
+#[derive(Clone, Copy)]
 pub struct Taken {
     pub part: Part,
     pub input: Input,
 }
 
 // A part of which so many bytes are there, or what became of it.
-#[derive(Drop)]
+#[derive(Clone, Copy)]
 enum Progress {
     More(usize),
     Done(Part),

@@ -4,7 +4,7 @@ ghost use Rattle.streams.specs.Output.{Stays};
 
 use libc::STDOUT_FILENO;
 
-#[derive(Drop)]
+#[derive(Clone, Copy)]
 pub struct Output {
     failed: bool,
 }

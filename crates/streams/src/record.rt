@@ -6,7 +6,7 @@ use crate::input;
 use crate::input::{Input, Part};
 
 // A whole record has its tag, and how many bytes stand in the space that was lent. One that is cut short, or longer than the space, is malformed.
-#[derive(Drop)]
+#[derive(Clone, Copy)]
 pub enum Record {
     Complete(u8, usize),
     Malformed,
@@ -14,20 +14,20 @@ pub enum Record {
     Failed,
 }
 
-#[derive(Drop)]
+#[derive(Clone, Copy)]
 pub struct RecordRead {
     pub record: Record,
     pub input: Input,
 }
 
-#[derive(Drop)]
+#[derive(Clone, Copy)]
 struct Head {
     tag: u8,
     size: usize,
 }
 
 // A record that begins, or what there is in its place.
-#[derive(Drop)]
+#[derive(Clone, Copy)]
 enum Start {
     Begun(Head),
     Over(Record),

@@ -1,4 +1,6 @@
 // The text of the return, in ASCII, written into a buffer that the caller lends.
+#![tactic(auto)]
+
 pub mod line;
 pub mod number;
 pub mod print;

@@ -5,7 +5,7 @@ ghost use Rattle.text.specs.Steps.{Room, Puts};
 use encoding::bytes;
 
 // The place after the text, or that the buffer has too little room.
-#[derive(Drop)]
+#[derive(Clone, Copy)]
 pub enum Written {
     At(usize),
     NoRoom,

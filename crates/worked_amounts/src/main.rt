@@ -1,4 +1,6 @@
 // The papers' worked losses and figures, and the ends of every range: the library's answers, a line for each case.
+#![tactic(auto)]
+
 mod contents;
 mod figures;
 mod line;

@@ -1,4 +1,6 @@
 // A site's book through the library's calls: what each call answers and what the reports show, a line for each.
+#![tactic(auto)]
+
 mod bodies;
 mod counts;
 mod declines;

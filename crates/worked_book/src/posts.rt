@@ -84,7 +84,7 @@ pub(crate) fn good(kind: u8) -> Post {
 }
 
 // A field, or none.
-#[derive(Drop)]
+#[derive(Clone, Copy)]
 pub(crate) enum Field {
     None,
     Material,

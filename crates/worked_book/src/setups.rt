@@ -3,7 +3,7 @@ use crate::{bodies, desk, line, sites};
 use book::site;
 
 // A count of substances, and a byte of the good body with what it is changed to.
-#[derive(Drop)]
+#[derive(Clone, Copy)]
 struct Case(u8, usize, u8);
 
 const CASES: [Case; 32] = [

@@ -3,7 +3,7 @@ use crate::{bodies, desk, line, sites};
 use book::site;
 
 // A byte of the good body with what it is changed to.
-#[derive(Drop)]
+#[derive(Clone, Copy)]
 struct Case(usize, u8);
 
 const CASES: [Case; 18] = [

@@ -1,4 +1,6 @@
 // A journal from records: reads a list of records from standard input, and writes the journal of those that are taken on standard output.
+#![tactic(auto)]
+
 mod reading;
 mod reply;
 

@@ -14,7 +14,7 @@ use records::record::MALFORMED;
 use streams::record::Record;
 
 // The page's filled length and block being filled after a record, whether another may follow, and whether the input could be read.
-#[derive(Drop)]
+#[derive(Clone, Copy)]
 pub(crate) struct State {
     pub(crate) filled: usize,
     pub(crate) draft: Draft,
