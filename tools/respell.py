@@ -14,7 +14,9 @@ DECLARED = re.compile(r"^( *)((?:pub |abbrev |unfoldable |data |record |infix\w*
 WORD = re.compile(r"[^\s(){}\[\].;,:@\"«»|`]+")
 FACTS = {"withinHalf": "WithinHalf"}
 # Lemmas that would have their definition's name.
-LEMMAS = set("comes-to from_one in-range in-span is_free of-issue of-posts of-stock one-material parts-to".split())
+LEMMAS = set(
+    "before-close block-of-posts comes-to from_one in-range in-span is_free of-issue of-posts of-stock one-material out-of-turn parts-to post-at posts-taken".split()
+)
 # Lemmas named by two names of definitions.
 KEPT = set("drop-zeros joined-append length-placed length-put length-raised length-settled zeros-append".split())
 
@@ -41,15 +43,9 @@ def read(path):
 
 def declared(path):
     """Each name that the file declares, but for a function's goals and its theorem."""
-    text = read(path)
-    data = False
-    for line in text.split("\n"):
+    for line in read(path).split("\n"):
         m = DECLARED.match(line)
-        if line and not line.startswith(" "):
-            data = bool(re.match(r"(pub )?(data|record) ", line))
         if not m or m[3] in ("where", "use"):
-            continue
-        if m[1] and not data:
             continue
         rest = line[m.end():].strip()
         if re.match(r"(tie|goal)\.", rest) or rest.endswith("statement M"):

@@ -7,8 +7,8 @@ pub data Answer (A : Type 0) : Type 0 where
   declined : ℕ → Answer A
 
 -- 1: the block isn't 512 bytes or lacks "PRTR"
-abbrev pub not_aBlock : ℕ
-not_aBlock = 1
+abbrev pub not_a_block : ℕ
+not_a_block = 1
 
 -- 2: a check sum differs
 abbrev pub check_sum : ℕ

@@ -103,36 +103,36 @@ content_is m numbers p n e h = go (subst (λ (i : Measure). measured i numbers p
     go f = cc
 
 module _ (f : Move → ℕ) (g : Sort → Post → ℕ) (a : Agrees f g) where
-  by-sort : (e : Sort) (m : Measure) (d : Does) (numbers : List ℕ) (p : Post) (n : ℕ) → measured m numbers p ≡ taken n → SortedBy e m d → f (move_of d p n) ≡ g e p
-  by-sort e m Receives numbers p n h (s, q) =
+  by_sort : (e : Sort) (m : Measure) (d : Does) (numbers : List ℕ) (p : Post) (n : ℕ) → measured m numbers p ≡ taken n → SortedBy e m d → f (move_of d p n) ≡ g e p
+  by_sort e m Receives numbers p n h (s, q) =
       ap (λ (i : ℕ). f (Received p.material i)) (quantity_is m numbers p n q h) ∙ a.of_stock_lem p ∙ ap (λ (i : Sort). g i p) (sym s)
-  by-sort e m Issues numbers p n h (s, q) =
+  by_sort e m Issues numbers p n h (s, q) =
       ap (λ (i : ℕ). f (Issued p.material p.stage i)) (quantity_is m numbers p n q h) ∙ a.of_issue_lem p ∙ ap (λ (i : Sort). g i p) (sym s)
-  by-sort e m (Brings account) numbers p n h (as_formed s q t) =
+  by_sort e m (Brings account) numbers p n h (as_formed s q t) =
       ap (λ (i : ℕ). f (Brought i p.stage p.substance n)) t
       ∙ ap (λ (i : ℕ). f (Brought held p.stage p.substance i)) (quantity_is m numbers p n q h)
       ∙ a.of_formed p
       ∙ ap (λ (i : Sort). g i p) (sym s)
-  by-sort e m (Brings account) numbers p n h (as_found s q t) =
+  by_sort e m (Brings account) numbers p n h (as_found s q t) =
       ap (λ (i : ℕ). f (Brought i p.stage p.substance n)) t
       ∙ ap (λ (i : ℕ). f (Brought off_site p.stage p.substance i)) (content_is m numbers p n q h)
       ∙ a.of_found p
       ∙ ap (λ (i : Sort). g i p) (sym s)
-  by-sort e m (Leaves account) numbers p n h s = a.of_gone p account n ∙ ap (λ (i : Sort). g i p) (sym s)
-  by-sort e m Closes numbers p n h s = a.of_close p ∙ ap (λ (i : Sort). g i p) (sym s)
+  by_sort e m (Leaves account) numbers p n h s = a.of_gone p account n ∙ ap (λ (i : Sort). g i p) (sym s)
+  by_sort e m Closes numbers p n h s = a.of_close p ∙ ap (λ (i : Sort). g i p) (sym s)
 
   -- a post that was read
-  of-post : (numbers s : List ℕ) → Read numbers s → f (said numbers s) ≡ g (sort_of (post_at s).kind) (post_at s)
-  of-post numbers s (r, k, e) =
+  of_post : (numbers s : List ℕ) → Read numbers s → f (said numbers s) ≡ g (sort_of (post_at s).kind) (post_at s)
+  of_post numbers s (r, k, e) =
       let p = post_at s in
       let z = was_taken (measured r.measure numbers p) (λ n. taken (move_of r.does p n)) (said numbers s) e in
       let is : move_of r.does p z.0 ≡ said numbers s = cc in
-      ap f (sym is) ∙ by-sort (sort_of p.kind) r.measure r.does numbers p z.0 z.1 (sorted p.kind r k)
+      ap f (sym is) ∙ by_sort (sort_of p.kind) r.measure r.does numbers p z.0 z.1 (sorted p.kind r k)
 
   pub of_posts_lem : (numbers : List ℕ) (posts : List (List ℕ)) → Each (Read numbers) posts → sum_over f (map (said numbers) posts) ≡ sum_posts g posts
   unfolding sum_over sum_posts
   of_posts_lem numbers [] h = refl
-  of_posts_lem numbers (s ∷ posts) h = omega (arith, of-post numbers s h.0, of_posts_lem numbers posts h.1)
+  of_posts_lem numbers (s ∷ posts) h = omega (arith, of_post numbers s h.0, of_posts_lem numbers posts h.1)
 
 -- ---- the sums
 

@@ -20,7 +20,7 @@ use Rattle.layout.specs.declared.outline.Outline.{Outline}
 use Rattle.plant.specs.declared.setup.Setup.{Setup}
 use Rattle.layout.proofs.Checked.{passed}
 use Rattle.layout.proofs.frame.Laws.{is_held}
-use Rattle.layout.proofs.frame.Made.{held-made, count-made, body-made}
+use Rattle.layout.proofs.frame.Made.{held_made, count_made, body_made}
 use Rattle.layout.proofs.holds.Laws.{of_posts_lem}
 use Rattle.kinds.specs.Fields.{post_at}
 use Rattle.post.specs.Moves.{laid_out}
@@ -30,7 +30,7 @@ use Rattle.book.specs.Posts.{post_on, taken_to, posts_on}
 use Rattle.book.specs.Site.{book_with}
 use Rattle.book.specs.declared.site.Year.{Year}
 use Rattle.book.proofs.block.Laws.{is_framed}
-use Rattle.book.proofs.posts.Laws.{posted, taken-suc, none_yet, own-taken}
+use Rattle.book.proofs.posts.Laws.{posted, taken_suc, none_yet, own_taken}
 
 -- ---- posts in bytes
 
@@ -54,16 +54,16 @@ post_behind n l s e long = ap (take 48) (drop_at l s (n * 48) e) ∙ take_all 48
 pub same_run : (u : Setup) (y : Year) (f g : ℕ → List ℕ) (n : ℕ) → ((i : ℕ) → i < n → f i ≡ g i) → taken_to u y f n ≡ taken_to u y g n
 same_run u y f g zero h = none_yet u y f ∙ sym (none_yet u y g)
 same_run u y f g (suc n) h =
-    taken-suc u y f n
+    taken_suc u y f n
     ∙ ap (λ (x : Answer Year). on_taken x (λ z. post_on u z (f n))) (same_run u y f g n (λ i l. h i (omega arith)))
     ∙ ap (λ (s : List ℕ). on_taken (taken_to u y g n) (λ z. post_on u z s)) (h n (omega arith))
-    ∙ sym (taken-suc u y g n)
+    ∙ sym (taken_suc u y g n)
 
 -- the first of a run that is taken
 pub first_taken : (u : Setup) (y z : Year) (f : ℕ → List ℕ) (n : ℕ) → taken_to u y f (suc n) ≡ taken z → (x : Year) × (post_on u y (f 0) ≡ taken x)
-first_taken u y z f zero e = (z, sym (taken-suc u y f 0 ∙ ap (λ (x : Answer Year). on_taken x (λ z. post_on u z (f 0))) (none_yet u y f)) ∙ e)
+first_taken u y z f zero e = (z, sym (taken_suc u y f 0 ∙ ap (λ (x : Answer Year). on_taken x (λ z. post_on u z (f 0))) (none_yet u y f)) ∙ e)
 first_taken u y z f (suc n) e =
-    let a = was_taken (taken_to u y f (suc n)) (λ z. post_on u z (f (suc n))) z (sym (taken-suc u y f (suc n)) ∙ e) in
+    let a = was_taken (taken_to u y f (suc n)) (λ z. post_on u z (f (suc n))) z (sym (taken_suc u y f (suc n)) ∙ e) in
     first_taken u y a.0 f n a.1
 
 -- a run that is taken comes in its turn, to a book that isn't closed
@@ -86,7 +86,7 @@ taken_long u y z s e =
 pub one_more : (u : Setup) (y z x : Year) (l s : List ℕ) (n : ℕ) → length l ≡ n * 48 → taken_to u y (post_in l) n ≡ taken z → post_on u z s ≡ taken x
     → taken_to u y (post_in (l ++ s)) (suc n) ≡ taken x
 one_more u y z x l s n e run p =
-    taken-suc u y (post_in (l ++ s)) n
+    taken_suc u y (post_in (l ++ s)) n
     ∙ ap (λ (a : Answer Year). on_taken a (λ d. post_on u d (post_in (l ++ s) n))) (same_run u y (post_in (l ++ s)) (post_in l) n (λ i h. post_front i n l s h e) ∙ run)
     ∙ ap (post_on u z) (post_behind n l s e (taken_long u z x s p))
     ∙ p
@@ -108,23 +108,23 @@ pub padded_long : (n : ℕ) (l : List ℕ) → length l ≤ n → length (padded
 padded_long n l h = omega (arith, length-append l (replicate (n - length l) 0), length-replicate {A = ℕ} (n - length l) 0)
 
 module _ (n : ℕ) (l : List ℕ) (long : length l ≡ n * 48) (some : 1 ≤ n) (few : n ≤ 10) where
-  within-it : within 1 10 n ≡ true
-  within-it = rw (le-leb 1 n some, le-leb n 10 few)
+  within_it : within 1 10 n ≡ true
+  within_it = rw (le-leb 1 n some, le-leb n 10 few)
 
   -- 4 to 6 of the block's own bytes
-  pub own-passes : {A : Type 0} (a : A) (o : Outline) (closed : Bool) → may_post o ≡ true → closed ≡ false
+  pub own_passes : {A : Type 0} (a : A) (o : Outline) (closed : Bool) → may_post o ≡ true → closed ≡ false
       → checked (own_checks o closed n (padded 500 l)) a ≡ taken a
   unfolding checked
-  own-passes a o closed t c =
+  own_passes a o closed t c =
       let size = padded_long 500 l (omega arith) in
       let rest = drop_at l (replicate (500 - length l) 0) (n * 48) long in
-      rw (t, c, eq-eqb _ _ size, within-it, rest, zeros (500 - length l))
+      rw (t, c, eq-eqb _ _ size, within_it, rest, zeros (500 - length l))
 
   -- the posts of the body are those of the bytes
-  posts-of-body : (u : Setup) (y z : Year) → taken_to u y (post_in l) n ≡ taken z → posts_on u y n (padded 500 l) ≡ taken z
-  posts-of-body u y z run =
+  posts_of_body : (u : Setup) (y z : Year) → taken_to u y (post_in l) n ≡ taken z → posts_on u y n (padded 500 l) ≡ taken z
+  posts_of_body u y z run =
       let a = run_admits u y z (post_in l) n some run in
-      own-taken u y n (padded 500 l) (own-passes n u.outline y.closed a.0 a.1)
+      own_taken u y n (padded 500 l) (own_passes n u.outline y.closed a.0 a.1)
       ∙ same_run u y (post_in (padded 500 l)) (post_in l) n (λ i h. post_front i n l (replicate (500 - length l) 0) h long)
       ∙ run
 
@@ -133,11 +133,11 @@ module _ (n : ℕ) (l : List ℕ) (long : length l ≡ n * 48) (some : 1 ≤ n) 
     made = block_of 3 n m (padded 500 l)
 
     -- the block, framed as the next, and the book after it
-    pub block-of-posts : (u : Setup) (y z : Year) → checked (frame_checks m made) made ≡ taken made → taken_to u y (post_in l) n ≡ taken z
+    pub block_of_posts_lem : (u : Setup) (y z : Year) → checked (frame_checks m made) made ≡ taken made → taken_to u y (post_in l) n ≡ taken z
         → block_on (book_with u y m) made ≡ taken (book_with u z (m + 1))
-    block-of-posts u y z frame run =
+    block_of_posts_lem u y z frame run =
         let b = book_with u y m in
-        is_framed b made Posts (is_held m made frame ∙ held-made 3 n m (padded 500 l) Posts of_posts_lem)
-        ∙ ap (λ (k : ℕ). on_year b (posts_on u y k (body_of made))) (count-made 3 n m (padded 500 l))
-        ∙ ap (λ (body : List ℕ). on_year b (posts_on u y n body)) (body-made 3 n m (padded 500 l) (padded_long 500 l (omega arith)))
-        ∙ ap (on_year b) (posts-of-body u y z run)
+        is_framed b made Posts (is_held m made frame ∙ held_made 3 n m (padded 500 l) Posts of_posts_lem)
+        ∙ ap (λ (k : ℕ). on_year b (posts_on u y k (body_of made))) (count_made 3 n m (padded 500 l))
+        ∙ ap (λ (body : List ℕ). on_year b (posts_on u y n body)) (body_made 3 n m (padded 500 l) (padded_long 500 l (omega arith)))
+        ∙ ap (on_year b) (posts_of_body u y z run)

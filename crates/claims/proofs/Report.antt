@@ -27,14 +27,14 @@ use Rattle.report.specs.Fate.{cells_of, fate_for, stage_fate, fate_to, map_headi
 use Rattle.report.specs.Report.{filing_of, report_at}
 use Rattle.report.specs.declared.fate.Fate.{Fate}
 use Rattle.report.specs.declared.report.Report.{Report}
-use Rattle.report.proofs.report.Laws.{report-handled, report-entered, headings-fit, figures_within}
+use Rattle.report.proofs.report.Laws.{report_handled, report_entered, headings_fit, figures_within}
 use Rattle.claims.specs.Demand as demand
 use Rattle.claims.specs.Demand.{Balanced}
 use Rattle.claims.specs.Standing.{Standing, counted_in, moves_of}
 use Rattle.claims.specs.Weighing.{sewered_at, landfilled_at, water_for, rates_for, receives, issues, brought, received, issued, store, formed, found, handled_by, came}
 use Rattle.claims.specs.Weighing.{remains, under, any_closes, is_closed, held_at, to_gas, to_water, gas_total, water_total, fate_of, report_by, Weighed}
 use Rattle.claims.proofs.Setting.{SetBy}
-use Rattle.claims.proofs.State.{cameSum, leftSum, underSum, State, still_open, shut}
+use Rattle.claims.proofs.State.{came_sum, left_sum, under_sum, State, still_open, shut}
 use Rattle.claims.proofs.Sums.{Each, over_three}
 use Rattle.claims.proofs.Tells.{Setting, unset, is_set, Tells}
 
@@ -48,14 +48,14 @@ pub balanced : (w : Standing) (b : Book) (s : ℕ) → Tells w b → s < 8 → B
 balanced w b s h few =
     let c = book_with b.setup b.year 0 in
     let g = plain_sound w b h in
-    let out = sym (h.handled s few) ∙ sym (report-handled c g s few) in
+    let out = sym (h.handled s few) ∙ sym (report_handled c g s few) in
     record {
-      weighed_in = sym (h.entered s few) ∙ sym (report-entered c g s few);
+      weighed_in = sym (h.entered s few) ∙ sym (report_entered c g s few);
       weighed_out = out;
       shown = h.handled s few;
       figures = λ e.
           let x = (report_at c s).fate.headings in
-          (map_headings filed_of x, ap (λ (t : Bool). filing_of t x) e, figures_within x (headings-fit c g s few));
+          (map_headings filed_of x, ap (λ (t : Bool). filing_of t x) e, figures_within x (headings_fit c g s few));
       counted = h.count;
     }
 
@@ -86,12 +86,12 @@ handles_is counted s (Gone a k t n) e = omega arith
 handles_is counted s Close e = omega arith
 
 module _ (w : Standing) (named : Each Named (moves_of w)) (s : ℕ) where
-  handled-posts : demand.handled w s ≡ handled_by w s
-  handled-posts =
+  handled_posts : demand.handled w s ≡ handled_by w s
+  handled_posts =
       over_three Named (handles (counted_in w) s) (issues (counted_in w) s) (brought held s) (brought off_site s) (moves_of w) named (handles_is (counted_in w) s)
 
-  entered-posts : demand.entered w s ≡ received w s + formed w s + found w s
-  entered-posts =
+  entered_posts : demand.entered w s ≡ received w s + formed w s + found w s
+  entered_posts =
       over_three Named (enters (counted_in w) s) (receives (counted_in w) s) (brought held s) (brought off_site s) (moves_of w) named (enters_is (counted_in w) s)
 
 -- ---- a stage's sums
@@ -115,12 +115,12 @@ no_side account false n d e = rw (ne_eqb account gas d)
 
 module _ (counted : List ℕ) (sides : List Bool) (ms : List Move) (sums : List ℕ) (closed : Bool) (k s : ℕ) (hk : k < 8) (hs : s < 8) where
   abbrev rest : ℕ
-  rest = cameSum counted ms k s - leftSum counted ms k s
+  rest = came_sum counted ms k s - left_sum counted ms k s
 
   abbrev side : Bool
   side = get_or sides (k * 8 + s) false
 
-  enough : State counted sides ms sums closed → leftSum counted ms k s ≤ cameSum counted ms k s
+  enough : State counted sides ms sums closed → left_sum counted ms k s ≤ came_sum counted ms k s
   enough (still_open e q o) = omega (arith, o.kept k s hk hs)
   enough (shut e q o) = o.enough k s hk hs
 
@@ -129,17 +129,17 @@ module _ (counted : List ℕ) (sides : List Bool) (ms : List Move) (sums : List 
   held_by (shut e q o) = rw q (o.none_held k s hk hs)
 
   -- an account that the close moves nothing to
-  named_by : State counted sides ms sums closed → (a : ℕ) → 1 ≤ a → a < 9 → (a ≡ gas → ⊥) → (a ≡ water → ⊥) → cell sums a k s ≡ underSum counted ms a k s
+  named_by : State counted sides ms sums closed → (a : ℕ) → 1 ≤ a → a < 9 → (a ≡ gas → ⊥) → (a ≡ water → ⊥) → cell sums a k s ≡ under_sum counted ms a k s
   named_by (still_open e q o) a low high d f = o.gone a k s low high hk hs
   named_by (shut e q o) a low high d f = omega (arith, o.gone a k s low high hk hs, no_side a side rest d f)
 
-  gas-by : State counted sides ms sums closed → cell sums gas k s ≡ underSum counted ms gas k s + cond (any_closes ms) (to_gas side rest) 0
-  gas-by (still_open e q o) = rw q (omega (arith, o.gone gas k s (omega arith) (omega arith) hk hs))
-  gas-by (shut e q o) = rw q (o.gone gas k s (omega arith) (omega arith) hk hs ∙ ap (λ (n : ℕ). underSum counted ms gas k s + n) (gas_side side rest))
+  gas_by : State counted sides ms sums closed → cell sums gas k s ≡ under_sum counted ms gas k s + cond (any_closes ms) (to_gas side rest) 0
+  gas_by (still_open e q o) = rw q (omega (arith, o.gone gas k s (omega arith) (omega arith) hk hs))
+  gas_by (shut e q o) = rw q (o.gone gas k s (omega arith) (omega arith) hk hs ∙ ap (λ (n : ℕ). under_sum counted ms gas k s + n) (gas_side side rest))
 
-  water-by : State counted sides ms sums closed → cell sums water k s ≡ underSum counted ms water k s + cond (any_closes ms) (to_water side rest) 0
-  water-by (still_open e q o) = rw q (omega (arith, o.gone water k s (omega arith) (omega arith) hk hs))
-  water-by (shut e q o) = rw q (o.gone water k s (omega arith) (omega arith) hk hs ∙ ap (λ (n : ℕ). underSum counted ms water k s + n) (water_side side rest))
+  water_by : State counted sides ms sums closed → cell sums water k s ≡ under_sum counted ms water k s + cond (any_closes ms) (to_water side rest) 0
+  water_by (still_open e q o) = rw q (omega (arith, o.gone water k s (omega arith) (omega arith) hk hs))
+  water_by (shut e q o) = rw q (o.gone water k s (omega arith) (omega arith) hk hs ∙ ap (λ (n : ℕ). under_sum counted ms water k s + n) (water_side side rest))
 
 -- ---- the report, part by part
 
@@ -190,81 +190,81 @@ module _ (w : Standing) (b : Book) (h : Tells w b) (up : SetBy w.first w.stages 
     abbrev told : State (counted_in w) u.to_water (moves_of w) sums b.year.closed
     told = h.state
 
-    side-is : get_or u.to_water (k * 8 + s) false ≡ water_for w k s
-    side-is = up.sides k s hk l
+    side_is : get_or u.to_water (k * 8 + s) false ≡ water_for w k s
+    side_is = up.sides k s hk l
 
-    held-is : cell sums held k s ≡ held_at w s k
-    held-is = held_by (counted_in w) u.to_water (moves_of w) sums b.year.closed k s hk few told
+    held_is : cell sums held k s ≡ held_at w s k
+    held_is = held_by (counted_in w) u.to_water (moves_of w) sums b.year.closed k s hk few told
 
-    named-is : (a : ℕ) → 1 ≤ a → a < 9 → (a ≡ gas → ⊥) → (a ≡ water → ⊥) → cell sums a k s ≡ under a w s k
-    named-is a low high d e = named_by (counted_in w) u.to_water (moves_of w) sums b.year.closed k s hk few told a low high d e
+    named_is : (a : ℕ) → 1 ≤ a → a < 9 → (a ≡ gas → ⊥) → (a ≡ water → ⊥) → cell sums a k s ≡ under a w s k
+    named_is a low high d e = named_by (counted_in w) u.to_water (moves_of w) sums b.year.closed k s hk few told a low high d e
 
-    gas-is : cell sums gas k s ≡ gas_total w s k
-    gas-is =
-        gas-by (counted_in w) u.to_water (moves_of w) sums b.year.closed k s hk few told
-        ∙ ap (λ (x : Bool). under gas w s k + cond (is_closed w) (to_gas x (remains w s k)) 0) side-is
+    gas_is : cell sums gas k s ≡ gas_total w s k
+    gas_is =
+        gas_by (counted_in w) u.to_water (moves_of w) sums b.year.closed k s hk few told
+        ∙ ap (λ (x : Bool). under gas w s k + cond (is_closed w) (to_gas x (remains w s k)) 0) side_is
 
-    water-is : cell sums water k s ≡ water_total w s k
-    water-is =
-        water-by (counted_in w) u.to_water (moves_of w) sums b.year.closed k s hk few told
-        ∙ ap (λ (x : Bool). under water w s k + cond (is_closed w) (to_water x (remains w s k)) 0) side-is
+    water_is : cell sums water k s ≡ water_total w s k
+    water_is =
+        water_by (counted_in w) u.to_water (moves_of w) sums b.year.closed k s hk few told
+        ∙ ap (λ (x : Bool). under water w s k + cond (is_closed w) (to_water x (remains w s k)) 0) side_is
 
     stage_is : stage_fate sums u s k ≡ stage_by w s k
     stage_is =
         ap (λ (r : Rates). fate_for (cells_of sums k s) r (get_or u.to_sewer k false) (get_or u.to_landfill k false)) (up.rates k s hk l)
         ∙ rw (
-          held-is,
-          named-is shipped (omega arith) (omega arith) (λ e. omega arith) (λ e. omega arith),
-          named-is off_site (omega arith) (omega arith) (λ e. omega arith) (λ e. omega arith),
-          named-is landfill (omega arith) (omega arith) (λ e. omega arith) (λ e. omega arith),
-          named-is soil (omega arith) (omega arith) (λ e. omega arith) (λ e. omega arith),
-          named-is consumed (omega arith) (omega arith) (λ e. omega arith) (λ e. omega arith),
-          gas-is,
-          water-is,
-          named-is vapour (omega arith) (omega arith) (λ e. omega arith) (λ e. omega arith),
+          held_is,
+          named_is shipped (omega arith) (omega arith) (λ e. omega arith) (λ e. omega arith),
+          named_is off_site (omega arith) (omega arith) (λ e. omega arith) (λ e. omega arith),
+          named_is landfill (omega arith) (omega arith) (λ e. omega arith) (λ e. omega arith),
+          named_is soil (omega arith) (omega arith) (λ e. omega arith) (λ e. omega arith),
+          named_is consumed (omega arith) (omega arith) (λ e. omega arith) (λ e. omega arith),
+          gas_is,
+          water_is,
+          named_is vapour (omega arith) (omega arith) (λ e. omega arith) (λ e. omega arith),
           up.water k hk,
           up.residue k hk,
         )
 
   -- over all stages, for each amount of a fate
-  over-stages : (f : Fate → ℕ) → sum_to 8 (λ k. f (stage_fate sums u s k)) ≡ sum_to 8 (λ k. f (stage_by w s k))
-  over-stages f = sum_same 8 (λ k. f (stage_fate sums u s k)) (λ k. f (stage_by w s k)) (λ k hk. ap f (stage_is k hk))
+  over_stages : (f : Fate → ℕ) → sum_to 8 (λ k. f (stage_fate sums u s k)) ≡ sum_to 8 (λ k. f (stage_by w s k))
+  over_stages f = sum_same 8 (λ k. f (stage_fate sums u s k)) (λ k. f (stage_by w s k)) (λ k hk. ap f (stage_is k hk))
 
   fate_is : fate_to sums u s 8 ≡ fate_of w s
   unfolding fate_to fate_of
   fate_is =
       rw (
-        over-stages (λ x. x.held),
-        over-stages (λ x. x.shipped),
-        over-stages (λ x. x.consumed),
-        over-stages (λ x. x.destroyed),
-        over-stages (λ x. x.headings.air),
-        over-stages (λ x. x.headings.water),
-        over-stages (λ x. x.headings.soil),
-        over-stages (λ x. x.headings.land),
-        over-stages (λ x. x.headings.sewer),
-        over-stages (λ x. x.headings.offsite),
+        over_stages (λ x. x.held),
+        over_stages (λ x. x.shipped),
+        over_stages (λ x. x.consumed),
+        over_stages (λ x. x.destroyed),
+        over_stages (λ x. x.headings.air),
+        over_stages (λ x. x.headings.water),
+        over_stages (λ x. x.headings.soil),
+        over_stages (λ x. x.headings.land),
+        over_stages (λ x. x.headings.sewer),
+        over_stages (λ x. x.headings.offsite),
       )
 
-  out-is : (report_at b s).handled ≡ handled_by w s
-  out-is = (balanced w b s h few).shown ∙ handled-posts w h.named s
+  out_is : (report_at b s).handled ≡ handled_by w s
+  out_is = (balanced w b s h few).shown ∙ handled_posts w h.named s
 
-  stock-is : (report_at b s).store + issued w s ≡ received w s
-  stock-is =
+  stock_is : (report_at b s).store + issued w s ≡ received w s
+  stock_is =
       let z = balanced w b s h few in
-      weighed_stock _ _ _ _ _ _ _ _ z.weighed_in z.weighed_out (handled-posts w h.named s) (entered-posts w h.named s)
+      weighed_stock _ _ _ _ _ _ _ _ z.weighed_in z.weighed_out (handled_posts w h.named s) (entered_posts w h.named s)
 
-  report-told : report_at b s ≡ report_by w s
-  report-told =
-      same_report _ _ _ _ _ _ _ _ _ _ _ _ h.count (ap (λ (x : List ℕ). get_or x s 0) up.numbers) out-is
-      (ap₂ (λ (c n : ℕ). value_or false (due_of c n)) (ap (λ (x : List ℕ). get_or x s 0) up.classes) out-is) (difference _ _ _ stock-is) fate_is
+  report_told : report_at b s ≡ report_by w s
+  report_told =
+      same_report _ _ _ _ _ _ _ _ _ _ _ _ h.count (ap (λ (x : List ℕ). get_or x s 0) up.numbers) out_is
+      (ap₂ (λ (c n : ℕ). value_or false (due_of c n)) (ap (λ (x : List ℕ). get_or x s 0) up.classes) out_is) (difference _ _ _ stock_is) fate_is
 
   weighs : Weighed w s
   weighs =
       record {
-        in_store = omega (arith, stock-is);
+        in_store = omega (arith, stock_is);
         in_holding = λ k hk. enough (counted_in w) u.to_water (moves_of w) sums b.year.closed k s hk few h.state;
-        handled_is = omega (arith, stock-is);
+        handled_is = omega (arith, stock_is);
       }
 
 -- from the relation alone
@@ -273,4 +273,4 @@ as_told w b s h l = go h.setting
   where
     go : Setting w b.setup → (report_at b s ≡ report_by w s) × Weighed w s
     go (unset e f z _) = absurd (omega arith)
-    go (is_set up) = (report-told w b h up s l, weighs w b h up s l)
+    go (is_set up) = (report_told w b h up s l, weighs w b h up s l)

@@ -22,14 +22,14 @@ use Rattle.layout.specs.declared.holds.SetupPart.{SetupPart}
 use Rattle.layout.specs.declared.outline.Outline.{Outline}
 use Rattle.plant.specs.declared.setup.Setup.{Setup}
 use Rattle.layout.proofs.frame.Laws.{framed}
-use Rattle.layout.proofs.frame.Made.{held-made}
+use Rattle.layout.proofs.frame.Made.{held_made}
 use Rattle.book.specs.Block.{block_on}
 use Rattle.book.specs.Posts.{post_on, taken_to, single_on}
 use Rattle.book.specs.Site.{fresh_book, fresh_year, book_with}
 use Rattle.book.specs.Blocks.{parts_to, parts_in, read, onward, read_all}
 use Rattle.book.specs.declared.site.Book.{Book}
 use Rattle.book.specs.declared.site.Year.{Year}
-use Rattle.book.proofs.block.Laws.{Done, set_up, described, block-done}
+use Rattle.book.proofs.block.Laws.{Done, set_up, described, block_done}
 use Rattle.book.proofs.block.Laws as blocks
 use Rattle.book.proofs.posts.Laws as posts
 use Rattle.book.proofs.posts.Laws.{none_yet}
@@ -49,7 +49,7 @@ use Rattle.claims.specs.Reread.{singly, JournalIsItsCalls, FilingIsOfCalls}
 use Rattle.claims.proofs.written.Accepted.{has_value, not_posts, set_up_taken}
 use Rattle.claims.proofs.written.Claims.{blocks_pass}
 use Rattle.claims.proofs.written.Places.{joined_last}
-use Rattle.claims.proofs.Filled.{run_admits, taken_long, one_more, block-of-posts}
+use Rattle.claims.proofs.Filled.{run_admits, taken_long, one_more, block_of_posts_lem}
 
 -- ---- the set-ups that a writer takes
 
@@ -190,7 +190,7 @@ reads_waiting : (u : Setup) (y z : Year) (waiting : List (List ℕ)) (m place : 
     → Frames m (framed_from m (of_posts waiting ∷ xs)) → Reads u y m place (framed_from m (of_posts waiting ∷ xs)) b
 unfolding framed_from
 reads_waiting u y z waiting m place xs b long some few run rest h =
-    reads_next u u y z m place _ (framed_from (suc m) xs) b (block-of-posts (length waiting) (joined waiting) long some few m u y z h.0 run) (rest h.1)
+    reads_next u u y z m place _ (framed_from (suc m) xs) b (block_of_posts_lem (length waiting) (joined waiting) long some few m u y z h.0 run) (rest h.1)
 
 -- ---- a call more
 
@@ -270,8 +270,8 @@ reads_set_up : (u : Setup) (y z : Year) (waiting : List (List ℕ)) (m k place :
 unfolding sheets framed_from
 reads_set_up u y z waiting m k place b c kind count body cs part j e rest =
     let s = block_of kind count k body in
-    let held = held-made kind count k body (SetUp part.0) part.1 in
-    let d = set_done u z k s c (not_posts part.0 held) (block-done (book_with u z k) c s e).1 in
+    let held = held_made kind count k body (SetUp part.0) part.1 in
+    let d = set_done u z k s c (not_posts part.0 held) (block_done (book_with u z k) c s e).1 in
     let none = j.before d.early in
     subst (λ (x : Year). Claim x waiting m) (same_year u y z waiting m k j none.0)
     (subst (λ (l : List (List ℕ)). Claim z l m) (sym (none_waits waiting none.0))

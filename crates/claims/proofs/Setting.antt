@@ -14,7 +14,7 @@ use Rattle.amounts.specs.Decline.{value_or}
 use Rattle.plant.specs.Setup.{no_rates, materials_in, numbers_in, classes_in, contents_in, counted_all, setup_of, SoundSetup}
 use Rattle.plant.specs.Stage.{second_of, sewered, landfilled, water_row, rate_row, with_stage}
 use Rattle.plant.specs.declared.setup.Setup.{Setup}
-use Rattle.encoding.proofs.Each.{put-at, put_other}
+use Rattle.encoding.proofs.Each.{put_at, put_other}
 use Rattle.plant.proofs.stage.Laws as stage_laws
 use Rattle.plant.proofs.setup.Taken.{same_at}
 use Rattle.plant.proofs.stage.Taken as stage
@@ -124,7 +124,7 @@ module _ (t x : List ℕ) (stages : List (List ℕ)) (u : Setup) (h : SetBy t st
         go : Dec (count_of x ≡ k) → get_or put (k * 8 + s) d ≡ row (drop 2 (stage_in k (stages ++ (x ∷ [])))) s
         go (yes e) =
             subst (λ (j : ℕ). get_or put (j * 8 + s) d ≡ row (drop 2 (stage_in j (stages ++ (x ∷ [])))) s) e
-            (put-at (λ i. count_of x * 8 + i) (row (drop 2 (body_of x))) l u.outline.substances s d (λ i j q. omega arith) hs (omega (arith, few, w.substances_few))
+            (put_at (λ i. count_of x * 8 + i) (row (drop 2 (body_of x))) l u.outline.substances s d (λ i j q. omega arith) hs (omega (arith, few, w.substances_few))
             ∙ ap (λ (y : List ℕ). row (drop 2 y) s) (sym (stage_new (count_of x) stages x refl (subst (λ (n : ℕ). Below n stages) (sym a.next) h.below))))
         go (no q) =
             put_other (λ i. count_of x * 8 + i) (row (drop 2 (body_of x))) l u.outline.substances (k * 8 + s) d

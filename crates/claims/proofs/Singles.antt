@@ -73,8 +73,8 @@ module _ (b : Book) (s : List ℕ) where
   own = own_checks b.setup.outline b.year.closed (count_of s) (body_of s)
 
   -- the posts, and the book after them
-  its-posts : on_taken year (λ y. taken (book_with b.setup y (b.blocks + 1))) ≡ on_taken (all_taken b (singles s)) (λ c. taken (book_with c.setup c.year (b.blocks + 1)))
-  its-posts =
+  its_posts : on_taken year (λ y. taken (book_with b.setup y (b.blocks + 1))) ≡ on_taken (all_taken b (singles s)) (λ c. taken (book_with c.setup c.year (b.blocks + 1)))
+  its_posts =
       sym (ap (λ (x : Answer Book). on_taken x (λ c. taken (book_with c.setup c.year (b.blocks + 1)))) (alone b (post_in (body_of s)) (count_of s)) ∙ go year)
     where
       go : (x : Answer Year)
@@ -92,7 +92,7 @@ module _ (b : Book) (s : List ℕ) where
   body_is =
       ap (λ (x : Answer Year). on_taken x (λ y. taken (book_with b.setup y (b.blocks + 1)))) (taken_value own (count_of s) (taken_to b.setup b.year (post_in (body_of s))))
       ∙ inside (checked own (count_of s))
-      ∙ ap (λ (x : Answer Book). on_taken (checked own (count_of s)) (λ _. x)) its-posts
+      ∙ ap (λ (x : Answer Book). on_taken (checked own (count_of s)) (λ _. x)) its_posts
       ∙ any_value own (count_of s) s after
     where
       inside : (x : Answer ℕ)

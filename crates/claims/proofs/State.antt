@@ -17,7 +17,7 @@ use Rattle.post.specs.Moves.{closes}
 use Rattle.book.specs.Entry.{is_there, sums_after}
 use Rattle.book.specs.Ledger.{cell}
 use Rattle.book.specs.Steps.{widest}
-use Rattle.book.proofs.ledger.Cells.{emptied, closed-to}
+use Rattle.book.proofs.ledger.Cells.{emptied, closed_to}
 use Rattle.claims.specs.Standing.{sum_over}
 use Rattle.claims.specs.Weighing.{issues_to, brings_to, goes_to, any_closes}
 use Rattle.claims.proofs.Flows.{Flows, flows}
@@ -26,26 +26,26 @@ use Rattle.claims.proofs.Sums.{sum_nil, sum_last}
 -- ---- what moves say of a stage and a substance
 
 module _ (counted : List ℕ) (ms : List Move) where
-  abbrev pub cameSum : ℕ → ℕ → ℕ
-  cameSum k s = sum_over (λ m. issues_to counted k s m + brings_to held k s m) ms
+  abbrev pub came_sum : ℕ → ℕ → ℕ
+  came_sum k s = sum_over (λ m. issues_to counted k s m + brings_to held k s m) ms
 
-  abbrev pub leftSum : ℕ → ℕ → ℕ
-  leftSum k s = sum_over (λ m. sum_to 8 (λ i. goes_to (1 + i) k s m)) ms
+  abbrev pub left_sum : ℕ → ℕ → ℕ
+  left_sum k s = sum_over (λ m. sum_to 8 (λ i. goes_to (1 + i) k s m)) ms
 
-  abbrev pub underSum : ℕ → ℕ → ℕ → ℕ
-  underSum a k s = sum_over (λ m. goes_to a k s m + brings_to a k s m) ms
+  abbrev pub under_sum : ℕ → ℕ → ℕ → ℕ
+  under_sum a k s = sum_over (λ m. goes_to a k s m + brings_to a k s m) ms
 
 -- before the close a holding is what came less what left, and each account what went or was brought to it
 pub record Open (counted : List ℕ) (ms : List Move) (sums : List ℕ) : Type 0 where
-  pub kept : (k s : ℕ) → k < 8 → s < 8 → cell sums held k s + leftSum counted ms k s ≡ cameSum counted ms k s
-  pub gone : (a k s : ℕ) → 1 ≤ a → a < 9 → k < 8 → s < 8 → cell sums a k s ≡ underSum counted ms a k s
+  pub kept : (k s : ℕ) → k < 8 → s < 8 → cell sums held k s + left_sum counted ms k s ≡ came_sum counted ms k s
+  pub gone : (a k s : ℕ) → 1 ≤ a → a < 9 → k < 8 → s < 8 → cell sums a k s ≡ under_sum counted ms a k s
 
 -- after it the holding has gone to the account of the pair's side
 pub record Shut (counted : List ℕ) (sides : List Bool) (ms : List Move) (sums : List ℕ) : Type 0 where
-  pub enough : (k s : ℕ) → k < 8 → s < 8 → leftSum counted ms k s ≤ cameSum counted ms k s
+  pub enough : (k s : ℕ) → k < 8 → s < 8 → left_sum counted ms k s ≤ came_sum counted ms k s
   pub none_held : (k s : ℕ) → k < 8 → s < 8 → cell sums held k s ≡ 0
   pub gone : (a k s : ℕ) → 1 ≤ a → a < 9 → k < 8 → s < 8
-      → cell sums a k s ≡ underSum counted ms a k s + cond (eqb a (closes_to (get_or sides (k * 8 + s) false))) (cameSum counted ms k s - leftSum counted ms k s) 0
+      → cell sums a k s ≡ under_sum counted ms a k s + cond (eqb a (closes_to (get_or sides (k * 8 + s) false))) (came_sum counted ms k s - left_sum counted ms k s) 0
 
 pub data State (counted : List ℕ) (sides : List Bool) (ms : List Move) (sums : List ℕ) (closed : Bool) : Type 0 where
   still_open : closed ≡ false → any_closes ms ≡ false → Open counted ms sums → State counted sides ms sums closed
@@ -78,11 +78,11 @@ or_true false = refl
 -- whether one of them closes
 closes_last : (ms : List Move) (m : Move) → any_closes ms ≡ false → any_closes (ms ++ (m ∷ [])) ≡ closes m
 unfolding any_closes
-closes_last [] m h = or-false (closes m)
+closes_last [] m h = or_false (closes m)
   where
-    or-false : (t : Bool) → (t || false) ≡ t
-    or-false true = refl
-    or-false false = refl
+    or_false : (t : Bool) → (t || false) ≡ t
+    or_false true = refl
+    or_false false = refl
 closes_last (x ∷ ms) m h = go (closes x) h (closes_last ms m)
   where
     go : (t : Bool) → (t || any_closes ms) ≡ false → (any_closes ms ≡ false → any_closes (ms ++ (m ∷ [])) ≡ closes m) → (t || any_closes (ms ++ (m ∷ []))) ≡ closes m
@@ -90,20 +90,20 @@ closes_last (x ∷ ms) m h = go (closes x) h (closes_last ms m)
     go false q before = before q
 
 module _ (counted : List ℕ) (ms : List Move) (m : Move) (k s : ℕ) where
-  came-last : cameSum counted (ms ++ (m ∷ [])) k s ≡ cameSum counted ms k s + (issues_to counted k s m + brings_to held k s m)
-  came-last = sum_last (λ x. issues_to counted k s x + brings_to held k s x) ms m
+  came_last : came_sum counted (ms ++ (m ∷ [])) k s ≡ came_sum counted ms k s + (issues_to counted k s m + brings_to held k s m)
+  came_last = sum_last (λ x. issues_to counted k s x + brings_to held k s x) ms m
 
-  left-last : leftSum counted (ms ++ (m ∷ [])) k s ≡ leftSum counted ms k s + sum_to 8 (λ i. goes_to (1 + i) k s m)
-  left-last = sum_last (λ x. sum_to 8 (λ i. goes_to (1 + i) k s x)) ms m
+  left_last : left_sum counted (ms ++ (m ∷ [])) k s ≡ left_sum counted ms k s + sum_to 8 (λ i. goes_to (1 + i) k s m)
+  left_last = sum_last (λ x. sum_to 8 (λ i. goes_to (1 + i) k s x)) ms m
 
-  under_last : (a : ℕ) → underSum counted (ms ++ (m ∷ [])) a k s ≡ underSum counted ms a k s + (goes_to a k s m + brings_to a k s m)
+  under_last : (a : ℕ) → under_sum counted (ms ++ (m ∷ [])) a k s ≡ under_sum counted ms a k s + (goes_to a k s m + brings_to a k s m)
   under_last a = sum_last (λ x. goes_to a k s x + brings_to a k s x) ms m
 
 -- a move before the close
 open_next : (counted sums next : List ℕ) (ms : List Move) (m : Move) → Open counted ms sums → Flows counted sums m next → Open counted (ms ++ (m ∷ [])) next
 open_next counted sums next ms m o f =
     record {
-      kept = λ k s hk hs. omega (arith, o.kept k s hk hs, f.kept k s hk hs, came-last counted ms m k s, left-last counted ms m k s);
+      kept = λ k s hk hs. omega (arith, o.kept k s hk hs, f.kept k s hk hs, came_last counted ms m k s, left_last counted ms m k s);
       gone = λ a k s low high hk hs. omega (arith, o.gone a k s low high hk hs, f.gone a k s low high hk hs, under_last counted ms m k s a);
     }
 
@@ -112,33 +112,33 @@ shut_next : (counted : List ℕ) (sides : List Bool) (sums : List ℕ) (ms : Lis
     → Shut counted sides (ms ++ (Close ∷ [])) (sums_after counted sides sums Close)
 shut_next counted sides sums ms long o =
     record {
-      enough = λ k s hk hs. omega (arith, came_same k s, left-same k s, o.kept k s hk hs);
+      enough = λ k s hk hs. omega (arith, came_same k s, left_same k s, o.kept k s hk hs);
       none_held = emptied sums sides long;
       gone = λ a k s low high hk hs.
           let to : Bool = eqb a (closes_to (get_or sides (k * 8 + s) false)) in
-          let was : cell sums held k s ≡ cameSum counted (ms ++ (Close ∷ [])) k s - leftSum counted (ms ++ (Close ∷ [])) k s =
-          omega (arith, came_same k s, left-same k s, o.kept k s hk hs) in
-          omega (arith, closed-to sums sides long a k s low high hk hs, o.gone a k s low high hk hs, under_last counted ms Close k s a, ap (λ (n : ℕ). cond to n 0) was);
+          let was : cell sums held k s ≡ came_sum counted (ms ++ (Close ∷ [])) k s - left_sum counted (ms ++ (Close ∷ [])) k s =
+          omega (arith, came_same k s, left_same k s, o.kept k s hk hs) in
+          omega (arith, closed_to sums sides long a k s low high hk hs, o.gone a k s low high hk hs, under_last counted ms Close k s a, ap (λ (n : ℕ). cond to n 0) was);
     }
   where
-    came_same : (k s : ℕ) → cameSum counted (ms ++ (Close ∷ [])) k s ≡ cameSum counted ms k s
-    came_same k s = omega (arith, came-last counted ms Close k s)
+    came_same : (k s : ℕ) → came_sum counted (ms ++ (Close ∷ [])) k s ≡ came_sum counted ms k s
+    came_same k s = omega (arith, came_last counted ms Close k s)
 
-    left-same : (k s : ℕ) → leftSum counted (ms ++ (Close ∷ [])) k s ≡ leftSum counted ms k s
-    left-same k s = omega (arith, left-last counted ms Close k s, sum_none 8 (λ i. goes_to (1 + i) k s Close) (λ i h. refl))
+    left_same : (k s : ℕ) → left_sum counted (ms ++ (Close ∷ [])) k s ≡ left_sum counted ms k s
+    left_same k s = omega (arith, left_last counted ms Close k s, sum_none 8 (λ i. goes_to (1 + i) k s Close) (λ i h. refl))
 
 module _ (counted : List ℕ) (sides : List Bool) (store sums : List ℕ) (ms : List Move) (long : length sums ≡ 576) (o : Open counted ms sums) (q : any_closes ms ≡ false) where
   abbrev next : Move → List ℕ
   next m = sums_after counted sides sums m
 
-  before-close : (m : Move) → closes m ≡ false → Fits widest m → Named m → is_there store sums m ≡ true → State counted sides (ms ++ (m ∷ [])) (next m) (closes m)
-  before-close m c f d t = still_open c (closes_last ms m q ∙ c) (open_next counted sums (next m) ms m o (flows counted sides store sums long m c f d t))
+  before_close_lem : (m : Move) → closes m ≡ false → Fits widest m → Named m → is_there store sums m ≡ true → State counted sides (ms ++ (m ∷ [])) (next m) (closes m)
+  before_close_lem m c f d t = still_open c (closes_last ms m q ∙ c) (open_next counted sums (next m) ms m o (flows counted sides store sums long m c f d t))
 
   by_move : (m : Move) → Fits widest m → Named m → is_there store sums m ≡ true → State counted sides (ms ++ (m ∷ [])) (next m) (closes m)
-  by_move (Received m g) f d t = before-close (Received m g) refl f d t
-  by_move (Issued m k g) f d t = before-close (Issued m k g) refl f d t
-  by_move (Brought a k s n) f d t = before-close (Brought a k s n) refl f d t
-  by_move (Gone a k s n) f d t = before-close (Gone a k s n) refl f d t
+  by_move (Received m g) f d t = before_close_lem (Received m g) refl f d t
+  by_move (Issued m k g) f d t = before_close_lem (Issued m k g) refl f d t
+  by_move (Brought a k s n) f d t = before_close_lem (Brought a k s n) refl f d t
+  by_move (Gone a k s n) f d t = before_close_lem (Gone a k s n) refl f d t
   by_move Close f d t = shut refl (closes_last ms Close q) (shut_next counted sides sums ms long o)
 
 pub state_next : (counted : List ℕ) (sides : List Bool) (store sums : List ℕ) (ms : List Move) (closed : Bool) (m : Move) → length sums ≡ 576 → closed ≡ false

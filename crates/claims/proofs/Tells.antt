@@ -32,7 +32,7 @@ use Rattle.book.specs.Posts.{post_on, taken_to, single_on}
 use Rattle.book.specs.Site.{SoundYear, in_year, open_posts, book_with, fresh_book}
 use Rattle.book.specs.declared.site.Book.{Book}
 use Rattle.book.specs.declared.site.Year.{Year}
-use Rattle.book.proofs.block.Laws.{Done, set_up, described, posted, block-done, done_sound, SoundParts}
+use Rattle.book.proofs.block.Laws.{Done, set_up, described, posted, block_done, done_sound, SoundParts}
 use Rattle.book.proofs.entry.Laws.{room_of}
 use Rattle.book.proofs.ledger.Laws.{cell_le}
 use Rattle.book.proofs.posts.Laws as posts
@@ -94,40 +94,40 @@ no_length [] e = refl
 no_length (x ∷ l) e = absurd (omega arith)
 
 module _ (w : Standing) (u : Setup) (y : Year) (blocks : ℕ) (h : SoundSetup u) (g : SoundYear u y) (none : y.posts ≡ 0) (no-posts : w.posts ≡ []) where
-  no-moves : moves_of w ≡ []
-  no-moves = ap (map (said (numbers_of w))) no-posts
+  no_moves : moves_of w ≡ []
+  no_moves = ap (map (said (numbers_of w))) no-posts
 
-  nothing-in : (f : Move → ℕ) → sum_over f (moves_of w) ≡ 0
-  nothing-in f = ap (sum_over f) no-moves ∙ sum_nil f
+  nothing_in : (f : Move → ℕ) → sum_over f (moves_of w) ≡ 0
+  nothing_in f = ap (sum_over f) no_moves ∙ sum_nil f
 
   zero_of : (x n : ℕ) → x ≤ 2 * 10 ^ 15 * n → n ≡ 0 → x ≡ 0
   zero_of x n l e = omega arith
 
-  in-none : (s : ℕ) → s < 8 → in_year u y s ≡ 0
-  in-none s hs = zero_of (in_year u y s) (open_posts y.closed y.posts) (g.bounded s hs) (omega (arith, none, open_posts_le y.closed y.posts))
+  in_none : (s : ℕ) → s < 8 → in_year u y s ≡ 0
+  in_none s hs = zero_of (in_year u y s) (open_posts y.closed y.posts) (g.bounded s hs) (omega (arith, none, open_posts_le y.closed y.posts))
 
-  no-grams : (m : ℕ) → m < 12 → get_or y.store m 0 ≡ 0
-  no-grams m hm = omega (arith, none, open_posts_le y.closed y.posts, g.stores m hm)
+  no_grams : (m : ℕ) → m < 12 → get_or y.store m 0 ≡ 0
+  no_grams m hm = omega (arith, none, open_posts_le y.closed y.posts, g.stores m hm)
 
-  tells-empty : y.closed ≡ false → Setting w u → Tells w (book_with u y blocks)
-  tells-empty o setting =
+  tells_empty : y.closed ≡ false → Setting w u → Tells w (book_with u y blocks)
+  tells_empty o setting =
       record {
         sound = record { setup = h; year = g };
         setting = setting;
         count = none ∙ sym (ap length no-posts);
-        entered = λ s hs. in-none s hs ∙ sym (nothing-in (enters (counted_in w) s));
-        handled = λ s hs. omega (arith, g.weighed s hs, in-none s hs, nothing-in (handles (counted_in w) s));
-        store = λ m hm. omega (arith, no-grams m hm, nothing-in (goes m), nothing-in (comes m));
-        named = subst (Each Named) (sym no-moves) tt;
+        entered = λ s hs. in_none s hs ∙ sym (nothing_in (enters (counted_in w) s));
+        handled = λ s hs. omega (arith, g.weighed s hs, in_none s hs, nothing_in (handles (counted_in w) s));
+        store = λ m hm. omega (arith, no_grams m hm, nothing_in (goes m), nothing_in (comes m));
+        named = subst (Each Named) (sym no_moves) tt;
         read = subst (Each (Read (numbers_of w))) (sym no-posts) tt;
         state =
-            subst (λ (ms : List Move). State (counted_in w) u.to_water ms y.sums y.closed) (sym no-moves)
+            subst (λ (ms : List Move). State (counted_in w) u.to_water ms y.sums y.closed) (sym no_moves)
             (state_none (counted_in w) u.to_water y.sums y.closed o
-            (λ a k s ha hk hs. omega (arith, cell_le y.sums a k s ha hk, in-none s hs)));
+            (λ a k s ha hk hs. omega (arith, cell_le y.sums a k s ha hk, in_none s hs)));
       }
 
 pub tells_fresh : Tells nothing fresh_book
-tells_fresh = tells-empty nothing fresh_book.setup fresh_book.year 0 sound_fresh.setup sound_fresh.year refl refl refl (unset refl refl refl refl)
+tells_fresh = tells_empty nothing fresh_book.setup fresh_book.year 0 sound_fresh.setup sound_fresh.year refl refl refl (unset refl refl refl refl)
 
 -- ---- a post
 
@@ -169,14 +169,14 @@ module _ (w : Standing) (b : Book) (z : Year) (s : List ℕ) (blocks : ℕ) (h :
   moves_next : moves_of (with_posts w (s ∷ [])) ≡ moves_of w ++ (p.move ∷ [])
   moves_next = map_last (said (numbers_of w)) w.posts s ∙ ap (λ (m : Move). moves_of w ++ (m ∷ [])) says
 
-  sum-next : (f : Move → ℕ) → sum_over f (moves_of (with_posts w (s ∷ []))) ≡ sum_over f (moves_of w) + f p.move
-  sum-next f = ap (sum_over f) moves_next ∙ sum_last f (moves_of w) p.move
+  sum_next : (f : Move → ℕ) → sum_over f (moves_of (with_posts w (s ∷ []))) ≡ sum_over f (moves_of w) + f p.move
+  sum_next f = ap (sum_over f) moves_next ∙ sum_last f (moves_of w) p.move
 
   counted_is : u.counted ≡ counted_in w
   counted_is = by.counted
 
-  pub tells-post : Tells (with_posts w (s ∷ [])) (book_with u z blocks)
-  tells-post =
+  pub tells_post : Tells (with_posts w (s ∷ [])) (book_with u z blocks)
+  tells_post =
       let step = post_step u y z s h.sound.setup h.sound.year p in
       let m = p.move in
       let fit = move_fits u.outline u.numbers s m p.admitted.told in
@@ -186,8 +186,8 @@ module _ (w : Standing) (b : Book) (z : Year) (s : List ℕ) (blocks : ℕ) (h :
         sound = record { setup = h.sound.setup; year = step.sound };
         setting = is_set by;
         count = omega (arith, step.one_more, h.count, length-append w.posts (s ∷ []));
-        entered = λ i hi. omega (arith, step.entered i hi, h.entered i hi, sum-next (enters (counted_in w) i), ap (λ (l : List ℕ). enters l i m) counted_is);
-        handled = λ i hi. omega (arith, step.handled i hi, h.handled i hi, sum-next (handles (counted_in w) i), ap (λ (l : List ℕ). handles l i m) counted_is);
+        entered = λ i hi. omega (arith, step.entered i hi, h.entered i hi, sum_next (enters (counted_in w) i), ap (λ (l : List ℕ). enters l i m) counted_is);
+        handled = λ i hi. omega (arith, step.handled i hi, h.handled i hi, sum_next (handles (counted_in w) i), ap (λ (l : List ℕ). handles l i m) counted_is);
         store =
             λ i hi.
             omega (
@@ -195,8 +195,8 @@ module _ (w : Standing) (b : Book) (z : Year) (s : List ℕ) (blocks : ℕ) (h :
               h.store i hi,
               store_next y.store y.sums i m h.sound.year.store_long room.fits p.there,
               ap (λ (x : Year). get_or x.store i 0) p.year,
-              sum-next (goes i),
-              sum-next (comes i),
+              sum_next (goes i),
+              sum_next (comes i),
             );
         named = subst (Each Named) (sym moves_next) (each_last Named (moves_of w) m h.named is-named);
         read = each_last (Read (numbers_of w)) w.posts s h.read was_read;
@@ -234,7 +234,7 @@ tells_many w b z f (suc n) blocks h e =
     let a = was_taken (taken_to b.setup b.year f n) (λ d. post_on b.setup d (f n)) z e in
     let before = tells_many w b a.0 f n blocks h a.1 in
     subst (λ (x : Standing). Tells x (book_with b.setup z blocks)) (same_with w (list_to n f) (f n ∷ []))
-    (tells-post (with_posts w (list_to n f)) (book_with b.setup a.0 blocks) z (f n) blocks before (posts.posted b.setup a.0 z (f n) a.2))
+    (tells_post (with_posts w (list_to n f)) (book_with b.setup a.0 blocks) z (f n) blocks before (posts.posted b.setup a.0 z (f n) a.2))
 
 -- ---- a block
 
@@ -248,11 +248,11 @@ stage_later o h l = go o.substances h
 
 -- a set-up block comes before any post
 module _ (w : Standing) (b : Book) (h : Tells w b) (none : b.year.posts ≡ 0) where
-  none-posted : w.posts ≡ []
-  none-posted = no_length w.posts (sym h.count ∙ none)
+  none_posted : w.posts ≡ []
+  none_posted = no_length w.posts (sym h.count ∙ none)
 
   is_open : b.year.closed ≡ false
-  is_open = none_open (counted_in w) b.setup.to_water b.year.sums (moves_of w) b.year.closed (ap (map (said (numbers_of w))) none-posted) h.state
+  is_open = none_open (counted_in w) b.setup.to_water b.year.sums (moves_of w) b.year.closed (ap (map (said (numbers_of w))) none_posted) h.state
 
 -- the stages that stood before a kind 1 block
 no_stages : (w : Standing) (u : Setup) → u.outline.substances ≡ 0 → Setting w u → w.stages ≡ []
@@ -273,7 +273,7 @@ tells_done w b c s h (set_up k a is) =
     let q = subst SoundParts is g in
     subst (λ (x : Book). Tells (stand w (block s)) x) (sym is)
     (subst (λ (x : Standing). Tells x (book_with u b.year (b.blocks + 1))) (stand_by w s (SetUp Materials) k)
-    (tells-empty v u b.year (b.blocks + 1) q.setup q.year none (none-posted w b h none) (is_open w b h none) (is_set by)))
+    (tells_empty v u b.year (b.blocks + 1) q.setup q.year none (none_posted w b h none) (is_open w b h none) (is_set by)))
 tells_done w b c s h (described k a is) =
     let none = h.sound.year.none_before (stage.not_yet b.setup.outline a.left) in
     let g = done_sound b c s h.sound (described k a is) in
@@ -284,7 +284,7 @@ tells_done w b c s h (described k a is) =
     let q = subst SoundParts is g in
     subst (λ (x : Book). Tells (stand w (block s)) x) (sym is)
     (subst (λ (x : Standing). Tells x (book_with u b.year (b.blocks + 1))) (stand_by w s (SetUp Stage) k)
-    (tells-empty v u b.year (b.blocks + 1) q.setup q.year none (none-posted w b h none) (is_open w b h none) (is_set by)))
+    (tells_empty v u b.year (b.blocks + 1) q.setup q.year none (none_posted w b h none) (is_open w b h none) (is_set by)))
 tells_done w b c s h (posted z k o e is) =
     subst (λ (x : Book). Tells (stand w (block s)) x) (sym is)
     (subst (λ (x : Standing). Tells x (book_with b.setup z (b.blocks + 1))) (stand_by w s Posts k)
@@ -297,8 +297,8 @@ unfolding single_on
 tells_call w b c (post s) h e =
     let a = was_taken (post_on b.setup b.year s) (λ y. taken (book_with b.setup y b.blocks)) c e in
     let is : book_with b.setup a.0 b.blocks ≡ c = cc in
-    subst (λ (x : Book). Tells (with_posts w (s ∷ [])) x) is (tells-post w b a.0 s b.blocks h (posts.posted b.setup b.year a.0 s a.1))
-tells_call w b c (block s) h e = tells_done w b c s h (block-done b c s e).1
+    subst (λ (x : Book). Tells (with_posts w (s ∷ [])) x) is (tells_post w b a.0 s b.blocks h (posts.posted b.setup b.year a.0 s a.1))
+tells_call w b c (block s) h e = tells_done w b c s h (block_done b c s e).1
 
 -- the first call, by its answer
 abbrev Keeps : List Call → Type 0

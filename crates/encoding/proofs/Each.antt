@@ -90,10 +90,10 @@ all_fails n f i l e = go (all_to n f) refl
 module _ {A : Type 0} where
   -- ---- lists
 
-  pub length-list : (n : ℕ) (f : ℕ → A) → length (list_to n f) ≡ n
+  pub length_list : (n : ℕ) (f : ℕ → A) → length (list_to n f) ≡ n
   unfolding list_to
-  length-list zero f = refl
-  length-list (suc n) f = omega (arith, length-append (list_to n f) (f n ∷ []), length-list n f)
+  length_list zero f = refl
+  length_list (suc n) f = omega (arith, length-append (list_to n f) (f n ∷ []), length_list n f)
 
   pub list_at : (n : ℕ) (f : ℕ → A) (i : ℕ) (d : A) → i < n → get_or (list_to n f) i d ≡ f i
   unfolding list_to
@@ -101,17 +101,17 @@ module _ {A : Type 0} where
   list_at (suc n) f i d l = go (ℕ_discrete i n) (list_at n f i d)
     where
       go : Dec (i ≡ n) → (i < n → get_or (list_to n f) i d ≡ f i) → get_or (list_to n f ++ (f n ∷ [])) i d ≡ f i
-      go (yes e) before = rw e (get_or_at (list_to n f) (f n) [] d n (length-list n f))
-      go (no u) before = get_or-append (list_to n f) (f n ∷ []) d i (omega (arith, length-list n f)) ∙ before (omega arith)
+      go (yes e) before = rw e (get_or_at (list_to n f) (f n) [] d n (length_list n f))
+      go (no u) before = get_or-append (list_to n f) (f n ∷ []) d i (omega (arith, length_list n f)) ∙ before (omega arith)
 
   -- what holds of each value, and past the end of the default, holds of each element
-  pub list-keeps : (P : A → Type 0) (n : ℕ) (f : ℕ → A) (d : A) → P d → ((i : ℕ) → i < n → P (f i)) → (i : ℕ) → P (get_or (list_to n f) i d)
-  list-keeps P n f d z h i = go (dec_lt i n)
+  pub list_keeps : (P : A → Type 0) (n : ℕ) (f : ℕ → A) (d : A) → P d → ((i : ℕ) → i < n → P (f i)) → (i : ℕ) → P (get_or (list_to n f) i d)
+  list_keeps P n f d z h i = go (dec_lt i n)
     where
       go : Dec (i < n) → P (get_or (list_to n f) i d)
       go (yes l) = rw (list_at n f i d l) (h i l)
       go (no u) =
-          let past : length (list_to n f) ≤ i = omega (arith, length-list n f) in
+          let past : length (list_to n f) ≤ i = omega (arith, length_list n f) in
           rw (get_or-eq_default (list_to n f) d past) z
 
   -- ---- writing at places
@@ -125,12 +125,12 @@ module _ {A : Type 0} where
   set_keeps P d (x ∷ l) (suc i) v h w (suc j) = set_keeps P d l i v (λ k. h (suc k)) w j
 
   module _ (place : ℕ → ℕ) (f : ℕ → A) (l : List A) where
-    pub put-again : (n : ℕ) (out : List A) (v : A) → out ≡ put_to place f l n → v ≡ f n → set out (place n) v ≡ put_to place f l (n + 1)
+    pub put_again : (n : ℕ) (out : List A) (v : A) → out ≡ put_to place f l n → v ≡ f n → set out (place n) v ≡ put_to place f l (n + 1)
     unfolding put_to
-    put-again n out v e w = rw (add-one, e, w)
+    put_again n out v e w = rw (add-one, e, w)
 
-    pub put-done : (i n : ℕ) (out : List A) → i ≤ n → n ≤ i → out ≡ put_to place f l i → out ≡ put_to place f l n
-    put-done i n out h g e = let k : i ≡ n = omega arith in e ∙ ap (λ j. put_to place f l j) k
+    pub put_done : (i n : ℕ) (out : List A) → i ≤ n → n ≤ i → out ≡ put_to place f l i → out ≡ put_to place f l n
+    put_done i n out h g e = let k : i ≡ n = omega arith in e ∙ ap (λ j. put_to place f l j) k
 
     pub length-put : (n : ℕ) → length (put_to place f l n) ≡ length l
     unfolding put_to
@@ -145,10 +145,10 @@ module _ {A : Type 0} where
         get_or-set_other (put_to place f l n) (place n) j (f n) d (h n (omega arith)) ∙ put_other n j d (λ i g. h i (omega arith))
 
     -- what is written at a place of its own is there
-    pub put-at : (n i : ℕ) (d : A) → ((j k : ℕ) → place j ≡ place k → j ≡ k) → i < n → place i < length l → get_or (put_to place f l n) (place i) d ≡ f i
+    pub put_at : (n i : ℕ) (d : A) → ((j k : ℕ) → place j ≡ place k → j ≡ k) → i < n → place i < length l → get_or (put_to place f l n) (place i) d ≡ f i
     unfolding put_to
-    put-at zero i d own h g = absurd (omega arith)
-    put-at (suc n) i d own h g = go (ℕ_discrete i n) (λ k. put-at n i d own k g)
+    put_at zero i d own h g = absurd (omega arith)
+    put_at (suc n) i d own h g = go (ℕ_discrete i n) (λ k. put_at n i d own k g)
       where
         go : Dec (i ≡ n) → (i < n → get_or (put_to place f l n) (place i) d ≡ f i) → get_or (set (put_to place f l n) (place n) (f n)) (place i) d ≡ f i
         go (yes e) before = rw e (get_or-set_same (put_to place f l n) (place n) (f n) d (omega (arith, length-put n, ap place e)))
@@ -165,10 +165,10 @@ module _ {A : Type 0} where
   pub fill : (n : ℕ) (f : ℕ → A) (a : A) → put_to (λ i. i) f (replicate n a) n ≡ list_to n f
   fill n f a =
       let long : length (put_to (λ i. i) f (replicate n a) n) ≡ n = length-put (λ i. i) f (replicate n a) n ∙ length-replicate n a in
-      ext_get_or a (put_to (λ i. i) f (replicate n a) n) (list_to n f) (long ∙ sym (length-list n f))
+      ext_get_or a (put_to (λ i. i) f (replicate n a) n) (list_to n f) (long ∙ sym (length_list n f))
       (λ i h.
-      put-at (λ i. i) f (replicate n a) n i a (λ j k e. e) (omega arith) (omega (arith, length-replicate n a))
+      put_at (λ i. i) f (replicate n a) n i a (λ j k e. e) (omega arith) (omega (arith, length-replicate n a))
       ∙ sym (list_at n f i a (omega arith)))
 
   pub fill_done : (n : ℕ) (f : ℕ → A) (a : A) (i : ℕ) (out : List A) → i ≤ n → n ≤ i → out ≡ put_to (λ i. i) f (replicate n a) i → out ≡ list_to n f
-  fill_done n f a i out h g e = put-done (λ i. i) f (replicate n a) i n out h g e ∙ fill n f a
+  fill_done n f a i out h g e = put_done (λ i. i) f (replicate n a) i n out h g e ∙ fill n f a

@@ -36,8 +36,8 @@ sums_of s = record { plain = plain_sum (take 508 s); weighted = weighted_sum (ta
 -- 1 to 3
 abbrev pub frame_checks : ℕ → List ℕ → List Check
 frame_checks blocks s =
-    check (eqb (length s) 512) number.not_aBlock
-    ∷ check (has_tag s) number.not_aBlock
+    check (eqb (length s) 512) number.not_a_block
+    ∷ check (has_tag s) number.not_a_block
     ∷ check (eqb (le 2 (drop 508 s)) (sums_of s).plain) number.check_sum
     ∷ check (eqb (le 2 (drop 510 s)) (sums_of s).weighted) number.check_sum
     ∷ check (is_taken (holds_of (block_kind s))) number.not_next

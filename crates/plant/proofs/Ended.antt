@@ -12,17 +12,17 @@ use Rattle.plant.specs.declared.setup.Setup.{Setup}
 use Rattle.plant.specs.declared.setup.SetupEnd.{SetupEnd}
 
 module _ {A : Type 0} (rows : List Check) (v : Verdict) (a : A) (told : v ≡ verdict_of (checked rows (tt {0}))) where
-  pub table-declined : (d : Decline) → v ≡ Declined d → checked rows a ≡ declined d.number
-  table-declined d e = declines (tt {0}) a rows d (sym e ∙ told)
+  pub table_declined : (d : Decline) → v ≡ Declined d → checked rows a ≡ declined d.number
+  table_declined d e = declines (tt {0}) a rows d (sym e ∙ told)
 
-  pub table-accepted : v ≡ Accepted → checked rows a ≡ taken a
-  table-accepted e = accepts (tt {0}) a rows (sym e ∙ told)
+  pub table_accepted : v ≡ Accepted → checked rows a ≡ taken a
+  table_accepted e = accepts (tt {0}) a rows (sym e ∙ told)
 
 -- ---- what a set-up block returns
 
 pub end_declined : (u v : Setup) (rows : List Check) (verdict : Verdict) → verdict ≡ verdict_of (checked rows (tt {0})) → (d : Decline) → verdict ≡ Declined d
     → ◌≡◌ {A = SetupEnd} (record { verdict = verdict; setup = u }) (setup_end u (checked rows v))
-end_declined u v rows verdict told d e = ap ended e ∙ sym (ap (setup_end u) (table-declined rows verdict v told d e))
+end_declined u v rows verdict told d e = ap ended e ∙ sym (ap (setup_end u) (table_declined rows verdict v told d e))
   where
     ended : Verdict → SetupEnd
     ended x = record { verdict = x; setup = u }

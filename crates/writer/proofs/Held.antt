@@ -53,14 +53,14 @@ writer_val s n d = vstruct (vcons s (vcons (vint w64 n) (vcons (draft_val d) vni
 -- ---- what is known of what a call returned
 
 module _ (r : Taken) (w : Val) (is : Is K.the_row r (w ∷ [])) where
-  pub verdict-is : Is Vd.the_row r.verdict (verdict_val r.verdict ∷ [])
-  verdict-is = (LL.owed K.the_type K'.the_laws r _ is).0
+  pub verdict_is : Is Vd.the_row r.verdict (verdict_val r.verdict ∷ [])
+  verdict_is = (LL.owed K.the_type K'.the_laws r _ is).0
 
-  pub filled-fits : r.filled < 2 ^ 64
-  filled-fits = (LL.owed K.the_type K'.the_laws r _ is).1.0.1
+  pub filled_fits : r.filled < 2 ^ 64
+  filled_fits = (LL.owed K.the_type K'.the_laws r _ is).1.0.1
 
-  pub draft-is : Is D.the_row r.draft (draft_val r.draft ∷ [])
-  draft-is = (LL.owed K.the_type K'.the_laws r _ is).1.1.0
+  pub draft_is : Is D.the_row r.draft (draft_val r.draft ∷ [])
+  draft_is = (LL.owed K.the_type K'.the_laws r _ is).1.1.0
 
 -- ---- a writer whose slice lies at (b, o)
 
@@ -69,8 +69,8 @@ module _ (b o : ℕ) where
   abbrev pub slice_at : GName → List ℕ → MutBor (List ℕ)
   slice_at δ l = record { ref_ptr = (b, o); ghost_name = δ; now = l }
 
-  abbrev pub writer-at : GName → List ℕ → ℕ → Draft → Writer
-  writer-at γ l n d = record { buffer = slice_at γ l; filled = n; draft = d }
+  abbrev pub writer_at : GName → List ℕ → ℕ → Draft → Writer
+  writer_at γ l n d = record { buffer = slice_at γ l; filled = n; draft = d }
 
 -- the second of a signature's lifetimes
 abbrev pub second : Lft → NamedLft
@@ -83,15 +83,15 @@ module _ (κ : Lft) (b o : ℕ) (γ : GName) (ys : List ℕ) where
   abbrev s : Val
   s = slice_val (b, o) (length ys)
 
-  module _ (n : ℕ) (d : Draft) (g : Is (Row κ) (writer-at b o γ ys n d) (writer_val s n d ∷ [])) where
+  module _ (n : ℕ) (d : Draft) (g : Is (Row κ) (writer_at b o γ ys n d) (writer_val s n d ∷ [])) where
     pub room : Room u8 (length ys)
-    room = (LL.owed (T.the_type (second κ)) (T'.the_laws (second κ)) (writer-at b o γ ys n d) _ g).0.0.1
+    room = (LL.owed (T.the_type (second κ)) (T'.the_laws (second κ)) (writer_at b o γ ys n d) _ g).0.0.1
 
-    pub n-fits : n < 2 ^ 64
-    n-fits = (LL.owed (T.the_type (second κ)) (T'.the_laws (second κ)) (writer-at b o γ ys n d) _ g).1.0.1
+    pub n_fits : n < 2 ^ 64
+    n_fits = (LL.owed (T.the_type (second κ)) (T'.the_laws (second κ)) (writer_at b o γ ys n d) _ g).1.0.1
 
-    pub d-is : Is D.the_row d (draft_val d ∷ [])
-    d-is = (LL.owed (T.the_type (second κ)) (T'.the_laws (second κ)) (writer-at b o γ ys n d) _ g).1.1.0
+    pub d_is : Is D.the_row d (draft_val d ∷ [])
+    d_is = (LL.owed (T.the_type (second κ)) (T'.the_laws (second κ)) (writer_at b o γ ys n d) _ g).1.1.0
 
   -- ---- its slice lent again
 
@@ -109,10 +109,10 @@ module _ (κ : Lft) (b o : ℕ) (γ : GName) (ys : List ℕ) where
   module _ {M : Type 1} {𝓤 : Ura M} (𝓛 : Logic 𝓤) (q : Share) (ν : ℕ) where
     open 𝓛 use {H, A}
 
-    pub lends : (n : ℕ) (d : Draft) → ent 𝓤 (sep 𝓤 (sem 𝓛 ((Row κ).own_val (writer-at b o γ ys n d) (writer_val s n d ∷ []))) (A.lft κ q))
+    pub lends : (n : ℕ) (d : Draft) → ent 𝓤 (sep 𝓤 (sem 𝓛 ((Row κ).own_val (writer_at b o γ ys n d) (writer_val s n d ∷ []))) (A.lft κ q))
         (H.⇛ (ex 𝓤 (λ (δ : GName). sep 𝓤 (sem 𝓛 (Lent ν δ)) (sem 𝓛 (Keeps q ν δ)))))
     lends n d =
-        qed 𝓛 (‵ ((Row κ).own_val (writer-at b o γ ys n d) (writer_val s n d ∷ [])) ∷ ‵ (flft κ q) ∷ []) ∵ updating ! $
+        qed 𝓛 (‵ ((Row κ).own_val (writer_at b o γ ys n d) (writer_val s n d ∷ [])) ∷ ‵ (flft κ q) ∷ []) ∵ updating ! $
         use1 𝓛 (given (writer_val s n d ∷ [] ≡ writer_val s n d ∷ []) (‵ (all_own (T.the_type (second κ)).parts (T'.the_laws (second κ)) (slice_at b o γ ys, (n, (d, tt))))))
         (own_open 𝓛 (T.the_type (second κ)) (T'.the_laws (second κ)) (slice_at b o γ ys, (n, (d, tt))) (writer_val s n d)) $ learn ! (λ _. fsplit ! $ move ! (1 ∷ []) $ drop ! $
         use2 𝓛 (later (some (λ (δ : GName). ‵ (Lent ν δ) ⊛ ‵ (Keeps q ν δ))))
@@ -121,12 +121,12 @@ module _ (κ : Lft) (b o : ℕ) (γ : GName) (ys : List ℕ) where
 
     pub comes_home : (δ : GName) (zs : List ℕ) (m : ℕ) (c : Draft) → Room u8 (length ys) → length zs ≡ length ys → m < 2 ^ 64 → Is D.the_row c (draft_val c ∷ [])
         → ent 𝓤 (sep 𝓤 (A.dead (ν ∷ [])) (sep 𝓤 (sem 𝓛 (Keeps q ν δ)) (sem 𝓛 (finally u8 δ zs))))
-        (H.⇛ (sep 𝓤 (sem 𝓛 ((Row κ).own_val (writer-at b o γ zs m c) (writer_val s m c ∷ []))) (A.lft κ q)))
+        (H.⇛ (sep 𝓤 (sem 𝓛 ((Row κ).own_val (writer_at b o γ zs m c) (writer_val s m c ∷ []))) (A.lft κ q)))
     comes_home δ zs m c room l m-fits c-is =
         qed 𝓛 (‵ (fdead (ν ∷ [])) ∷ ‵ (Keeps q ν δ) ∷ ‵ (finally u8 δ zs) ∷ []) ∵ updating ! $
         use3 𝓛 (later (‵ ((MutSlice (named 1) κ u8).own_val (slice_at b o γ zs) (s ∷ [])) ⊛ ‵ (flft κ q)))
         (comes_back u8 κ (ν ∷ []) q γ b o 𝓛 (named 1) (named 0) ys δ zs room l) $ await ! tt $ split ! $
         nothing ! $ owned ! D.the_row (Is D.the_row) (LL.makes D.the_type D'.the_plain 𝓛) c _ c-is $ fjoin ! $
         owned ! usize (Is usize) (uint_Makes 𝓛 w64) m _ (refl, m-fits) $ fjoin ! $ move ! (1 ∷ 0 ∷ []) $ fjoin ! $
-        use1 𝓛 (‵ ((Row κ).own_val (writer-at b o γ zs m c) (writer_val s m c ∷ [])))
+        use1 𝓛 (‵ ((Row κ).own_val (writer_at b o γ zs m c) (writer_val s m c ∷ [])))
         (makes 𝓛 (MutSlice (named 1) κ u8 ∷ usize ∷ D.the_row ∷ []) (had m c zs) (s ∷ [], (vint w64 m ∷ [], (draft_val c ∷ [], tt)))) $ at_once ! $ frame ! $ done !

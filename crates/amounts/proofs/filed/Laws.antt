@@ -178,28 +178,28 @@ module _ (a s h : ℕ) (some : 0 < s) (twice : s ≡ h + h) where
       ∙ ap (λ (k : ℕ). k / s) (add_assoc (a / s * s) (a % s) h)
       ∙ mul-add-div_right some (a / s) (a % s + h)
 
-  rounds-down : a % s < h → a / s ≡ (a + h) / s
-  rounds-down l = sym (apart ∙ ap (λ (k : ℕ). a / s + k) (div-eq_of_lt (omega arith)) ∙ omega arith)
+  rounds_down : a % s < h → a / s ≡ (a + h) / s
+  rounds_down l = sym (apart ∙ ap (λ (k : ℕ). a / s + k) (div-eq_of_lt (omega arith)) ∙ omega arith)
 
-  rounds-up : h ≤ a % s → a / s + 1 ≡ (a + h) / s
-  rounds-up l =
+  rounds_up : h ≤ a % s → a / s + 1 ≡ (a + h) / s
+  rounds_up l =
       sym (apart ∙ ap (λ (k : ℕ). a / s + k) (div-eq_of_lt-le {k = 1} s (omega arith) (omega (arith, mod-lt a some))))
 
   off : ((a + h) / s * s ≤ a + h) × (a ≤ (a + h) / s * s + h)
   off = (div-mul-le_self (a + h) s, omega (arith, lt-div-mul-add {a = a + h} some))
 
 module _ (a s : ℕ) (z : Step a s) (e : s ≡ step_of a) where
-  by-half : (a + z.half) / s * s ≡ filed_of a
+  by_half : (a + z.half) / s * s ≡ filed_of a
   unfolding filed_of
-  by-half = ap (λ (k : ℕ). (a + k) / s * s) (sym (half_is s z.half z.twice)) ∙ ap (λ (k : ℕ). half_up k a) e
+  by_half = ap (λ (k : ℕ). (a + k) / s * s) (sym (half_is s z.half z.twice)) ∙ ap (λ (k : ℕ). half_up k a) e
 
-  pub filed-down : a % s < s / 2 → a / s * s ≡ filed_of a
-  filed-down l =
-      ap (λ (k : ℕ). k * s) (rounds-down a s z.half z.some z.twice (rw (half_is s z.half z.twice) at l)) ∙ by-half
+  pub filed_down : a % s < s / 2 → a / s * s ≡ filed_of a
+  filed_down l =
+      ap (λ (k : ℕ). k * s) (rounds_down a s z.half z.some z.twice (rw (half_is s z.half z.twice) at l)) ∙ by_half
 
-  pub filed-up : s / 2 ≤ a % s → (a / s + 1) * s ≡ filed_of a
-  filed-up l =
-      ap (λ (k : ℕ). k * s) (rounds-up a s z.half z.some z.twice (rw (half_is s z.half z.twice) at l)) ∙ by-half
+  pub filed_up : s / 2 ≤ a % s → (a / s + 1) * s ≡ filed_of a
+  filed_up l =
+      ap (λ (k : ℕ). k * s) (rounds_up a s z.half z.some z.twice (rw (half_is s z.half z.twice) at l)) ∙ by_half
 
 -- rounding up stays within 64 bits: below 10 ^ 18 by the step's size, and at 10 ^ 18 by what the remainder leaves
 pub room_up : (a s : ℕ) → a < 2 ^ 64 → (z : Step a s) → z.half ≤ a % s → (a / s + 1) * s < 2 ^ 64

@@ -15,14 +15,14 @@ use Rattle.layout.specs.declared.holds.SetupPart.TheVariants.{Materials, Stage}
 use Rattle.plant.specs.Setup.{setup_of, set_up_on, SoundSetup}
 use Rattle.plant.specs.Stage.{with_stage, described_on}
 use Rattle.plant.specs.declared.setup.Setup.{Setup}
-use Rattle.layout.proofs.frame.Laws.{Framed, held-framed, number_small}
+use Rattle.layout.proofs.frame.Laws.{Framed, held_framed, number_small}
 use Rattle.layout.proofs.posts.Laws.{Owned}
 use Rattle.book.specs.Block.{by_holds, block_on}
 use Rattle.book.specs.Posts.{taken_to, posts_on}
 use Rattle.book.specs.Site.{Sound, SoundYear, book_with}
 use Rattle.book.specs.declared.site.Book.{Book}
 use Rattle.book.specs.declared.site.Year.{Year}
-use Rattle.book.proofs.posts.Laws.{many_sound, posts-taken}
+use Rattle.book.proofs.posts.Laws.{many_sound, posts_taken_lem}
 use Rattle.plant.proofs.setup.Taken as first
 use Rattle.book.proofs.site.Laws.{sound_before}
 use Rattle.plant.proofs.stage.Taken as stage
@@ -30,9 +30,9 @@ use Rattle.plant.proofs.stage.Taken as stage
 -- ---- through the frame
 
 module _ (b : Book) (s : List ℕ) where
-  pub not-framed : (n : ℕ) → held_at b.blocks s ≡ declined n → block_on b s ≡ declined n
+  pub not_framed : (n : ℕ) → held_at b.blocks s ≡ declined n → block_on b s ≡ declined n
   unfolding block_on
-  not-framed n e = rw e
+  not_framed n e = rw e
 
   pub is_framed : (h : Holds) → held_at b.blocks s ≡ taken h → block_on b s ≡ by_holds b s h
   unfolding block_on
@@ -66,20 +66,20 @@ module _ (b c : Book) (s : List ℕ) where
   three : (z : Year) → holds_of (block_kind s) ≡ taken Posts → posts_on b.setup b.year (count_of s) (body_of s) ≡ taken z
       → c ≡ book_with b.setup z (b.blocks + 1) → Done b s c
   three z k e is =
-      let a = posts-taken b.setup b.year (count_of s) (body_of s) z e in
+      let a = posts_taken_lem b.setup b.year (count_of s) (body_of s) z e in
       posted z k a.0 a.1 is
 
-  done-by : (h : Holds) → holds_of (block_kind s) ≡ taken h → by_holds b s h ≡ taken c → Done b s c
-  done-by (SetUp Materials) k e = let a = was_taken (set_up_on b.setup (count_of s) (body_of s)) _ c e in one a.0 k a.1 cc
-  done-by (SetUp Stage) k e = let a = was_taken (described_on b.setup (count_of s) (body_of s)) _ c e in two a.0 k a.1 cc
-  done-by Posts k e = let a = was_taken (posts_on b.setup b.year (count_of s) (body_of s)) _ c e in three a.0 k a.1 cc
+  done_by : (h : Holds) → holds_of (block_kind s) ≡ taken h → by_holds b s h ≡ taken c → Done b s c
+  done_by (SetUp Materials) k e = let a = was_taken (set_up_on b.setup (count_of s) (body_of s)) _ c e in one a.0 k a.1 cc
+  done_by (SetUp Stage) k e = let a = was_taken (described_on b.setup (count_of s) (body_of s)) _ c e in two a.0 k a.1 cc
+  done_by Posts k e = let a = was_taken (posts_on b.setup b.year (count_of s) (body_of s)) _ c e in three a.0 k a.1 cc
 
-  pub block-done : block_on b s ≡ taken c → Framed b.blocks s × Done b s c
+  pub block_done : block_on b s ≡ taken c → Framed b.blocks s × Done b s c
   unfolding block_on
-  block-done e =
+  block_done e =
       let a = was_taken (held_at b.blocks s) (by_holds b s) c e in
-      let f = held-framed b.blocks s a.0 a.1 in
-      (f.0, done-by a.0 f.1 a.2)
+      let f = held_framed b.blocks s a.0 a.1 in
+      (f.0, done_by a.0 f.1 a.2)
 
 -- ---- the book stays sound
 
@@ -107,10 +107,10 @@ done_blocks b c s (posted z k o e is) = ap (λ (x : Book). x.blocks) is
 
 -- one block more, and a number of 16 bits
 pub block_more : (b c : Book) (s : List ℕ) → block_on b s ≡ taken c → c.blocks ≡ b.blocks + 1
-block_more b c s e = done_blocks b c s (block-done b c s e).1
+block_more b c s e = done_blocks b c s (block_done b c s e).1
 
 pub block_sound : (b c : Book) (s : List ℕ) → ((i : ℕ) → get_or s i 0 < 256) → Sound b → block_on b s ≡ taken c → Sound c
 block_sound b c s fits h e =
-    let d = block-done b c s e in
+    let d = block_done b c s e in
     let p = done_sound b c s (record { setup = h.setup; year = h.year }) d.1 in
     record { setup = p.setup; year = p.year; blocks_few = omega (arith, number_small b.blocks s fits d.0, done_blocks b c s d.1) }

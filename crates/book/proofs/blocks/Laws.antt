@@ -99,13 +99,13 @@ module _ (s : List ℕ) (at end : ℕ) (h : at < length s) (e : end ≡ min (at 
       go (yes l) = omega (arith, min-eq_left l)
       go (no l) = let q : end ≡ length s = e ∙ min-eq_right (omega arith) in omega arith
 
-  pub end-inside : end ≤ length s
-  end-inside = (ends (dec_le (at + 512) (length s))).0
+  pub end_inside : end ≤ length s
+  end_inside = (ends (dec_le (at + 512) (length s))).0
 
   -- the block that it is, and then the rest
-  next-is : (b : Book) → Upto s b at
+  next_is : (b : Book) → Upto s b at
       → onward (block_on b (take (end - at) (drop at s))) b.blocks (λ c. read_all c (suc b.blocks) (parts_in (drop end s))) ≡ read_all fresh_book 0 (parts_in s)
-  next-is b u =
+  next_is b u =
       let z = ends (dec_le (at + 512) (length s)) in
       ap (λ (x : List ℕ). onward (block_on b x) b.blocks (λ c. read_all c (suc b.blocks) (parts_in (drop end s)))) z.1
       ∙ ap (λ (x : List ℕ). onward (block_on b (take 512 (drop at s))) b.blocks (λ c. read_all c (suc b.blocks) (parts_in x))) z.2
@@ -118,18 +118,18 @@ module _ (s : List ℕ) (at end : ℕ) (h : at < length s) (e : end ≡ min (at 
   upto_next b c fits u q =
       let more : c.blocks ≡ suc b.blocks = block_more b c (take (end - at) (drop at s)) q ∙ add-one b.blocks in
       record {
-        inside = end-inside;
+        inside = end_inside;
         so_far =
             ap (λ (n : ℕ). read_all c n (parts_in (drop end s))) more
             ∙ sym (ap (λ (x : Answer Book). onward x b.blocks (λ d. read_all d (suc b.blocks) (parts_in (drop end s)))) q)
-            ∙ next-is b u;
+            ∙ next_is b u;
         sound = block_sound b c (take (end - at) (drop at s)) fits u.sound q;
       }
 
   -- a block that is declined is the last
-  pub upto-stop : (b : Book) (n : ℕ) → Upto s b at → block_on b (take (end - at) (drop at s)) ≡ declined n → refused b.blocks n ≡ read_all fresh_book 0 (parts_in s)
-  upto-stop b n u q =
-      sym (ap (λ (x : Answer Book). onward x b.blocks (λ d. read_all d (suc b.blocks) (parts_in (drop end s)))) q) ∙ next-is b u
+  pub upto_stop : (b : Book) (n : ℕ) → Upto s b at → block_on b (take (end - at) (drop at s)) ≡ declined n → refused b.blocks n ≡ read_all fresh_book 0 (parts_in s)
+  upto_stop b n u q =
+      sym (ap (λ (x : Answer Book). onward x b.blocks (λ d. read_all d (suc b.blocks) (parts_in (drop end s)))) q) ∙ next_is b u
 
 -- all blocks are taken
 pub upto_all : (s : List ℕ) (b : Book) (at : ℕ) → Upto s b at → length s ≤ at → read b ≡ read_all fresh_book 0 (parts_in s)
@@ -145,15 +145,15 @@ module _ (u : Setup) (y : Year) (n : ℕ) (s : List ℕ) where
   book = book_with u y n
 
   module _ (held : held_at n s ≡ taken Posts) where
-    pub posts-refused : (v : Verdict) (d : Decline) (z : Year) → Ran (posts_on u y (count_of s) (body_of s)) v z → v ≡ Declined d → block_on book s ≡ declined d.number
-    posts-refused v d z r e = is_framed book s Posts held ∙ ap (on_year book) (ran_was_declined _ v d z r e)
+    pub posts_refused : (v : Verdict) (d : Decline) (z : Year) → Ran (posts_on u y (count_of s) (body_of s)) v z → v ≡ Declined d → block_on book s ≡ declined d.number
+    posts_refused v d z r e = is_framed book s Posts held ∙ ap (on_year book) (ran_was_declined _ v d z r e)
 
-    pub posts-entered : (v : Verdict) (z : Year) → Ran (posts_on u y (count_of s) (body_of s)) v z → v ≡ Accepted → block_on book s ≡ taken (book_with u z (n + 1))
-    posts-entered v z r e = is_framed book s Posts held ∙ ap (on_year book) (ran_was_taken _ v z r e)
+    pub posts_entered : (v : Verdict) (z : Year) → Ran (posts_on u y (count_of s) (body_of s)) v z → v ≡ Accepted → block_on book s ≡ taken (book_with u z (n + 1))
+    posts_entered v z r e = is_framed book s Posts held ∙ ap (on_year book) (ran_was_taken _ v z r e)
 
   module _ (part : SetupPart) (held : held_at n s ≡ taken (SetUp part)) where
-    pub setup-refused : (v : Verdict) (d : Decline) (w : Setup) → guarded v w ≡ setup_by u part (count_of s) (body_of s) → v ≡ Declined d → block_on book s ≡ declined d.number
-    setup-refused v d w r e = is_framed book s (SetUp part) held ∙ ap (on_setup book) (sym r ∙ ap (λ (x : Verdict). guarded x w) e)
+    pub setup_refused : (v : Verdict) (d : Decline) (w : Setup) → guarded v w ≡ setup_by u part (count_of s) (body_of s) → v ≡ Declined d → block_on book s ≡ declined d.number
+    setup_refused v d w r e = is_framed book s (SetUp part) held ∙ ap (on_setup book) (sym r ∙ ap (λ (x : Verdict). guarded x w) e)
 
-    pub setup-entered : (v : Verdict) (w : Setup) → guarded v w ≡ setup_by u part (count_of s) (body_of s) → v ≡ Accepted → block_on book s ≡ taken (book_with w y (n + 1))
-    setup-entered v w r e = is_framed book s (SetUp part) held ∙ ap (on_setup book) (sym r ∙ ap (λ (x : Verdict). guarded x w) e)
+    pub setup_entered : (v : Verdict) (w : Setup) → guarded v w ≡ setup_by u part (count_of s) (body_of s) → v ≡ Accepted → block_on book s ≡ taken (book_with w y (n + 1))
+    setup_entered v w r e = is_framed book s (SetUp part) held ∙ ap (on_setup book) (sym r ∙ ap (λ (x : Verdict). guarded x w) e)

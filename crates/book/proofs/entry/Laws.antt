@@ -27,7 +27,7 @@ use Rattle.plant.specs.Setup.{SoundSetup}
 use Rattle.book.specs.Steps.{widest, Room, Entered}
 use Rattle.book.specs.declared.site.Year.{Year}
 use Rattle.book.proofs.site.Laws.{open_posts_le, open_few}
-use Rattle.book.proofs.ledger.Laws.{total_set, total_other, cell_le, length_moved, total-moved, grown-le, length-settled, total-settled, length-raised, handled_raised, total-raised}
+use Rattle.book.proofs.ledger.Laws.{total_set, total_other, cell_le, length_moved, total_moved, grown_le, length-settled, total_settled, length-raised, handled_raised, total_raised}
 
 -- ---- what a move has room for
 
@@ -39,26 +39,26 @@ module _ (counted store sums handled : List ℕ) where
   abbrev Has : Move → Type 0
   Has m = Room counted store sums handled m
 
-  cell-few : (a stage s : ℕ) {m : Move} → Has m → a < 9 → stage < 8 → s < 8 → cell sums a stage s ≤ 2 * 10 ^ 15 * 4000
-  cell-few a stage s r ha hst hs = omega (arith, r.totals s hs, cell_le sums a stage s ha hst)
+  cell_few : (a stage s : ℕ) {m : Move} → Has m → a < 9 → stage < 8 → s < 8 → cell sums a stage s ≤ 2 * 10 ^ 15 * 4000
+  cell_few a stage s r ha hst hs = omega (arith, r.totals s hs, cell_le sums a stage s ha hst)
 
-  pub room-issued : (m stage g : ℕ) → Has (Issued m stage g)
+  pub room_issued : (m stage g : ℕ) → Has (Issued m stage g)
       → ((m < 12) × (stage < 8))
       × (((s : ℕ) → s < 8 → get_or sums (cell_of held stage s) 0 + brings counted m g s < 2 ^ 64)
       × ((s : ℕ) → s < 8 → get_or handled s 0 + brings counted m g s < 2 ^ 64))
-  room-issued m stage g r =
+  room_issued m stage g r =
       let f = r.fits in (
         (f.0, f.1.0),
         (
-          λ s hs. omega (arith, cell-few held stage s r (omega arith) f.1.0 hs, brings_small counted m g s r.counted_small f.1.1),
+          λ s hs. omega (arith, cell_few held stage s r (omega arith) f.1.0 hs, brings_small counted m g s r.counted_small f.1.1),
           λ s hs. omega (arith, r.handled_few s hs, brings_small counted m g s r.counted_small f.1.1),
         ),
       )
 
-  pub room-brought : (a stage s n : ℕ) → Has (Brought a stage s n) → (cell sums a stage s + n < 2 ^ 64) × (get_or handled s 0 + n < 2 ^ 64)
-  room-brought a stage s n r =
+  pub room_brought : (a stage s n : ℕ) → Has (Brought a stage s n) → (cell sums a stage s + n < 2 ^ 64) × (get_or handled s 0 + n < 2 ^ 64)
+  room_brought a stage s n r =
       let f = r.fits in (
-        omega (arith, cell-few a stage s r f.0 f.1.0 f.1.1.0, f.1.1.1),
+        omega (arith, cell_few a stage s r f.0 f.1.0 f.1.1.0, f.1.1.1),
         omega (arith, r.handled_few s f.1.1.0, f.1.1.1),
       )
 
@@ -66,10 +66,10 @@ module _ (counted store sums handled : List ℕ) where
       → get_or (set sums (cell_of held stage s) (cell sums held stage s - n)) (cell_of a stage s) 0 + n < 2 ^ 64
   room_gone a stage s n r have =
       let f = r.fits in
-      omega (arith, grown-le sums a stage s n f.0 f.1.0 f.1.1.0 r.sums_long have, r.totals s f.1.1.0)
+      omega (arith, grown_le sums a stage s n f.0 f.1.0 f.1.1.0 r.sums_long have, r.totals s f.1.1.0)
 
-  pub room-close : Has Close → ((s : ℕ) → s < 8 → total sums s < 2 ^ 64) × (length sums ≡ 576)
-  room-close r = (λ s hs. omega (arith, r.totals s hs), r.sums_long)
+  pub room_close : Has Close → ((s : ℕ) → s < 8 → total sums s < 2 ^ 64) × (length sums ≡ 576)
+  room_close r = (λ s hs. omega (arith, r.totals s hs), r.sums_long)
 
 -- ---- a move entered, by its case
 
@@ -103,8 +103,8 @@ fits_widest o (Gone a stage s n) hs hm hst f = (f.0, (omega (arith, f.1.0), (ome
 fits_widest o Close hs hm hst f = tt
 
 module _ (u : Setup) (y : Year) (su : SoundSetup u) (h : SoundYear u y) where
-  pub total-few : (s : ℕ) → s < 8 → total y.sums s ≤ 2 * 10 ^ 15 * open_posts y.closed y.posts
-  total-few s hs = omega (arith, h.bounded s hs)
+  pub total_few : (s : ℕ) → s < 8 → total y.sums s ≤ 2 * 10 ^ 15 * open_posts y.closed y.posts
+  total_few s hs = omega (arith, h.bounded s hs)
 
   pub room_of : (m : Move) → Fits u.outline m → Room u.counted y.store y.sums y.handled m
   room_of m f =
@@ -114,8 +114,8 @@ module _ (u : Setup) (y : Year) (su : SoundSetup u) (h : SoundYear u y) where
         counted_small = su.counted_small;
         stores = λ i hi. omega (arith, few, h.stores i hi);
         sums_long = h.sums_long;
-        totals = λ s hs. omega (arith, few, total-few s hs);
-        handled_few = λ s hs. omega (arith, few, total-few s hs, h.weighed s hs);
+        totals = λ s hs. omega (arith, few, total_few s hs);
+        handled_few = λ s hs. omega (arith, few, total_few s hs, h.weighed s hs);
       }
 
 -- ---- the store
@@ -125,21 +125,21 @@ brings_add : (counted : List ℕ) (m g h s : ℕ) → brings counted m (g + h) s
 brings_add counted m g h s = add-mul g h (get_or counted (m * 8 + s) 0)
 
 module _ (store counted : List ℕ) (m s : ℕ) (hm : m < 12) (long : length store ≡ 12) where
-  stored-set : (v : ℕ) → stored_to (set store m v) counted s 12 + brings counted m (get_or store m 0) s ≡ stored_to store counted s 12 + brings counted m v s
-  stored-set v =
+  stored_set : (v : ℕ) → stored_to (set store m v) counted s 12 + brings counted m (get_or store m 0) s ≡ stored_to store counted s 12 + brings counted m v s
+  stored_set v =
       sum_point 12 m (λ i. brings counted i (get_or (set store m v) i 0) s) (λ i. brings counted i (get_or store i 0) s) hm
       (λ i hi ne. ap (λ (x : ℕ). brings counted i x s) (get_or-set_other store m i v 0 ne))
       ∙ ap (λ (x : ℕ). stored_to store counted s 12 + brings counted m x s) (get_or-set_same store m v 0 (omega arith))
 
   -- what is received comes to the store
   stored_more : (g : ℕ) → stored_to (set store m (get_or store m 0 + g)) counted s 12 ≡ stored_to store counted s 12 + brings counted m g s
-  stored_more g = omega (arith, stored-set (get_or store m 0 + g), brings_add counted m (get_or store m 0) g s)
+  stored_more g = omega (arith, stored_set (get_or store m 0 + g), brings_add counted m (get_or store m 0) g s)
 
   -- and what is issued leaves it
-  stored-less : (g : ℕ) → g ≤ get_or store m 0 → stored_to (set store m (get_or store m 0 - g)) counted s 12 + brings counted m g s ≡ stored_to store counted s 12
-  stored-less g have =
+  stored_less : (g : ℕ) → g ≤ get_or store m 0 → stored_to (set store m (get_or store m 0 - g)) counted s 12 + brings counted m g s ≡ stored_to store counted s 12
+  stored_less g have =
       let e : get_or store m 0 - g + g ≡ get_or store m 0 = omega arith in
-      omega (arith, stored-set (get_or store m 0 - g), brings_add counted m (get_or store m 0 - g) g s, ap (λ (x : ℕ). brings counted m x s) e)
+      omega (arith, stored_set (get_or store m 0 - g), brings_add counted m (get_or store m 0 - g) g s, ap (λ (x : ℕ). brings counted m x s) e)
 
 -- a list with one place changed stays within a bound
 bounded_set : (l : List ℕ) (i v most : ℕ) → i < length l → ((j : ℕ) → j < length l → get_or l j 0 ≤ most) → v ≤ most → (j : ℕ) → j < length l → get_or (set l i v) j 0 ≤ most
@@ -196,8 +196,8 @@ module _ (u : Setup) (y : Year) (h : SoundYear u y) where
   stores_same : (i : ℕ) → i < 12 → get_or y.store i 0 ≤ 2 * 10 ^ 9 * y.posts
   stores_same i hi = omega (arith, h.stores i hi, open_posts_le y.closed y.posts)
 
-  stores-set : (m v : ℕ) → m < 12 → v ≤ 2 * 10 ^ 9 * (y.posts + 1) → (j : ℕ) → j < 12 → get_or (set y.store m v) j 0 ≤ 2 * 10 ^ 9 * (y.posts + 1)
-  stores-set m v hm hv j hj =
+  stores_set : (m v : ℕ) → m < 12 → v ≤ 2 * 10 ^ 9 * (y.posts + 1) → (j : ℕ) → j < 12 → get_or (set y.store m v) j 0 ≤ 2 * 10 ^ 9 * (y.posts + 1)
+  stores_set m v hm hv j hj =
       let long = h.store_long in
       bounded_set y.store m v (2 * 10 ^ 9 * (y.posts + 1)) (omega arith) (λ i hi. omega (arith, stores_same i (omega arith))) hv j (omega arith)
 
@@ -215,7 +215,7 @@ module _ (u : Setup) (y : Year) (h : SoundYear u y) where
         counts = λ s hs. omega arith;
         stored = λ s hs. omega (arith, stored_more y.store counted m s f.0 h.store_long g);
         few = λ s hs. omega (arith, brings_small counted m g s r.counted_small f.1);
-        stores = stores-set m (get_or y.store m 0 + g) f.0 (omega (arith, f.1, stores_same m f.0));
+        stores = stores_set m (get_or y.store m 0 + g) f.0 (omega (arith, f.1, stores_same m f.0));
       }
   leaves (Issued m stage g) r t =
       let f = r.fits in
@@ -225,11 +225,11 @@ module _ (u : Setup) (y : Year) (h : SoundYear u y) where
         store_long = length-set y.store m (get_or y.store m 0 - g) ∙ h.store_long;
         sums_long = length-raised (cell_of held stage) amount y.sums 8 ∙ h.sums_long;
         handled_long = length-raised (λ s. s) amount y.handled 8 ∙ h.handled_long;
-        totals = λ s hs. total-raised amount y.sums stage f.1.0 h.sums_long s hs;
+        totals = λ s hs. total_raised amount y.sums stage f.1.0 h.sums_long s hs;
         counts = λ s hs. handled_raised amount y.handled s h.handled_long hs;
-        stored = λ s hs. omega (arith, stored-less y.store counted m s f.0 h.store_long g have);
+        stored = λ s hs. omega (arith, stored_less y.store counted m s f.0 h.store_long g have);
         few = λ s hs. omega arith;
-        stores = stores-set m (get_or y.store m 0 - g) f.0 (omega (arith, stores_same m f.0));
+        stores = stores_set m (get_or y.store m 0 - g) f.0 (omega (arith, stores_same m f.0));
       }
   leaves (Brought a stage t n) r q =
       let f = r.fits in
@@ -250,7 +250,7 @@ module _ (u : Setup) (y : Year) (h : SoundYear u y) where
         store_long = h.store_long;
         sums_long = length_moved y.sums (cell_of held stage t) (cell_of a stage t) n ∙ h.sums_long;
         handled_long = h.handled_long;
-        totals = λ s hs. omega (arith, total-moved y.sums a stage t n f.0 f.1.0 f.1.1.0 h.sums_long have s hs);
+        totals = λ s hs. omega (arith, total_moved y.sums a stage t n f.0 f.1.0 f.1.1.0 h.sums_long have s hs);
         counts = λ s hs. omega arith;
         stored = λ s hs. omega arith;
         few = λ s hs. omega arith;
@@ -261,7 +261,7 @@ module _ (u : Setup) (y : Year) (h : SoundYear u y) where
         store_long = h.store_long;
         sums_long = length-settled y.sums u.to_water 64 ∙ h.sums_long;
         handled_long = h.handled_long;
-        totals = λ s hs. omega (arith, total-settled y.sums u.to_water 64 s (omega arith) hs h.sums_long);
+        totals = λ s hs. omega (arith, total_settled y.sums u.to_water 64 s (omega arith) hs h.sums_long);
         counts = λ s hs. omega arith;
         stored = λ s hs. omega arith;
         few = λ s hs. omega arith;

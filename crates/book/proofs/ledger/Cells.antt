@@ -24,11 +24,11 @@ same_place x k s y j t hk hs hj ht e =
 -- ---- one sum grows
 
 module _ (l : List ℕ) (y j t n : ℕ) (hj : j < 8) (ht : t < 8) where
-  pub added-same : y < 9 → length l ≡ 576 → cell (added l (cell_of y j t) n) y j t ≡ cell l y j t + n
-  added-same hy long = get_or-set_same l (cell_of y j t) (cell l y j t + n) 0 (omega arith)
+  pub added_same : y < 9 → length l ≡ 576 → cell (added l (cell_of y j t) n) y j t ≡ cell l y j t + n
+  added_same hy long = get_or-set_same l (cell_of y j t) (cell l y j t + n) 0 (omega arith)
 
-  pub added-other : (x k s : ℕ) → k < 8 → s < 8 → (x ≡ y → k ≡ j → s ≡ t → ⊥) → cell (added l (cell_of y j t) n) x k s ≡ cell l x k s
-  added-other x k s hk hs ne =
+  pub added_other : (x k s : ℕ) → k < 8 → s < 8 → (x ≡ y → k ≡ j → s ≡ t → ⊥) → cell (added l (cell_of y j t) n) x k s ≡ cell l x k s
+  added_other x k s hk hs ne =
       get_or-set_other l (cell_of y j t) (cell_of x k s) (cell l y j t + n) 0
       (λ e. let w = same_place x k s y j t hk hs hj ht e in ne w.0 w.1.0 w.1.1)
 
@@ -47,12 +47,12 @@ module _ (l : List ℕ) (from to n : ℕ) where
 
   module _ (apart : from ≡ to → ⊥) where
     -- the one falls by the amount
-    moved-from : from < length l → get_or (moved l from to n) from 0 ≡ get_or l from 0 - n
-    moved-from h = get_or-set_other less to from grown 0 apart ∙ get_or-set_same l from (get_or l from 0 - n) 0 h
+    moved_from : from < length l → get_or (moved l from to n) from 0 ≡ get_or l from 0 - n
+    moved_from h = get_or-set_other less to from grown 0 apart ∙ get_or-set_same l from (get_or l from 0 - n) 0 h
 
     -- and the other grows by it
-    moved-into : to < length l → get_or (moved l from to n) to 0 ≡ get_or l to 0 + n
-    moved-into h =
+    moved_into : to < length l → get_or (moved l from to n) to 0 ≡ get_or l to 0 + n
+    moved_into h =
         omega (
           arith,
           get_or-set_same less to grown 0 (omega (arith, length-set l from (get_or l from 0 - n))),
@@ -72,22 +72,22 @@ module _ (l : List ℕ) (account stage t n : ℕ) (hst : stage < 8) (ht : t < 8)
   module _ (low : 1 ≤ account) (high : account < 9) (long : length l ≡ 576) where
     -- the holding falls by what is moved
     pub falls : n ≤ cell l held stage t → cell (moved l (cell_of held stage t) (cell_of account stage t) n) held stage t + n ≡ cell l held stage t
-    falls have = omega (arith, moved-from l (cell_of held stage t) (cell_of account stage t) n (λ e. omega arith) (omega arith))
+    falls have = omega (arith, moved_from l (cell_of held stage t) (cell_of account stage t) n (λ e. omega arith) (omega arith))
 
     -- and the account grows by it
     pub gains : cell (moved l (cell_of held stage t) (cell_of account stage t) n) account stage t ≡ cell l account stage t + n
-    gains = moved-into l (cell_of held stage t) (cell_of account stage t) n (λ e. omega arith) (omega arith)
+    gains = moved_into l (cell_of held stage t) (cell_of account stage t) n (λ e. omega arith) (omega arith)
 
 -- ---- an issue
 
 module _ (amount : ℕ → ℕ) (l : List ℕ) (stage : ℕ) (hst : stage < 8) where
   -- the stage's holding of each substance grows by its amount
-  pub raised-held : (s : ℕ) → s < 8 → length l ≡ 576 → cell (raised (cell_of held stage) amount l 8) held stage s ≡ cell l held stage s + amount s
-  raised-held s hs long = raised_at (cell_of held stage) amount l 8 s (own_place stage) hs (omega arith)
+  pub raised_held : (s : ℕ) → s < 8 → length l ≡ 576 → cell (raised (cell_of held stage) amount l 8) held stage s ≡ cell l held stage s + amount s
+  raised_held s hs long = raised_at (cell_of held stage) amount l 8 s (own_place stage) hs (omega arith)
 
   -- and every other cell stands
-  pub raised-other : (x k s : ℕ) → k < 8 → s < 8 → (x ≡ held → k ≡ stage → ⊥) → cell (raised (cell_of held stage) amount l 8) x k s ≡ cell l x k s
-  raised-other x k s hk hs ne =
+  pub raised_other : (x k s : ℕ) → k < 8 → s < 8 → (x ≡ held → k ≡ stage → ⊥) → cell (raised (cell_of held stage) amount l 8) x k s ≡ cell l x k s
+  raised_other x k s hk hs ne =
       put_other (cell_of held stage) (λ i. cell l held stage i + amount i) l 8 (cell_of x k s) 0
       (λ i hi e. let w = same_place x k s held stage i hk hs hst hi e in ne w.0 w.1.0)
 
@@ -104,19 +104,19 @@ module _ (m : List ℕ) (to k : ℕ) (hk : k < 64) (some : 1 ≤ to) (few : to <
   n = get_or m (at held k) 0
 
   -- another pair stands
-  moved-elsewhere : (account j : ℕ) → j < 64 → (j ≡ k → ⊥) → get_or (moved m (at held k) (at to k) n) (at account j) 0 ≡ get_or m (at account j) 0
-  moved-elsewhere account j hj ne = moved_other m (at held k) (at to k) n (at account j) (λ e. ne (omega arith)) (λ e. ne (omega arith))
+  moved_elsewhere : (account j : ℕ) → j < 64 → (j ≡ k → ⊥) → get_or (moved m (at held k) (at to k) n) (at account j) 0 ≡ get_or m (at account j) 0
+  moved_elsewhere account j hj ne = moved_other m (at held k) (at to k) n (at account j) (λ e. ne (omega arith)) (λ e. ne (omega arith))
 
   -- the holding is emptied
-  moved-held : get_or (moved m (at held k) (at to k) n) (at held k) 0 ≡ 0
-  moved-held = omega (arith, moved-from m (at held k) (at to k) n (λ e. omega arith) (omega arith))
+  moved_held : get_or (moved m (at held k) (at to k) n) (at held k) 0 ≡ 0
+  moved_held = omega (arith, moved_from m (at held k) (at to k) n (λ e. omega arith) (omega arith))
 
   -- the account that it goes to grows by it, and the others stand
   moved_at : (account : ℕ) → 1 ≤ account → get_or (moved m (at held k) (at to k) n) (at account k) 0 ≡ get_or m (at account k) 0 + cond (eqb account to) n 0
   moved_at account ha = go (ℕ_discrete account to)
     where
       go : Dec (account ≡ to) → get_or (moved m (at held k) (at to k) n) (at account k) 0 ≡ get_or m (at account k) 0 + cond (eqb account to) n 0
-      go (yes e) = rw (eq-eqb account to e, e) (moved-into m (at held k) (at to k) n (λ f. omega arith) (omega arith))
+      go (yes e) = rw (eq-eqb account to e, e) (moved_into m (at held k) (at to k) n (λ f. omega arith) (omega arith))
       go (no d) = rw (ne_eqb account to d) (omega (arith, moved_other m (at held k) (at to k) n (at account k) (λ e. omega arith) (λ e. d (omega arith))))
 
 module _ (l : List ℕ) (sides : List Bool) (long : length l ≡ 576) where
@@ -124,28 +124,28 @@ module _ (l : List ℕ) (sides : List Bool) (long : length l ≡ 576) where
   stays i = length-settled l sides i ∙ long
 
   -- a pair that isn't closed yet stands
-  settled-later : (i j account : ℕ) → i ≤ j → j < 64 → account < 9 → get_or (settled l sides i) (at account j) 0 ≡ get_or l (at account j) 0
+  settled_later : (i j account : ℕ) → i ≤ j → j < 64 → account < 9 → get_or (settled l sides i) (at account j) 0 ≡ get_or l (at account j) 0
   unfolding settled
-  settled-later zero j account h hj ha = refl
-  settled-later (suc k) j account h hj ha =
+  settled_later zero j account h hj ha = refl
+  settled_later (suc k) j account h hj ha =
       let to = closes_to (get_or sides k false) in
-      moved-elsewhere (settled l sides k) to k (omega arith) (closes_above (get_or sides k false)) (closes_below (get_or sides k false)) (stays k) account j hj (λ e. omega arith)
-      ∙ settled-later k j account (omega arith) hj ha
+      moved_elsewhere (settled l sides k) to k (omega arith) (closes_above (get_or sides k false)) (closes_below (get_or sides k false)) (stays k) account j hj (λ e. omega arith)
+      ∙ settled_later k j account (omega arith) hj ha
 
   -- a closed pair holds nothing
-  settled-held : (i j : ℕ) → i ≤ 64 → j < i → get_or (settled l sides i) (at held j) 0 ≡ 0
+  settled_held : (i j : ℕ) → i ≤ 64 → j < i → get_or (settled l sides i) (at held j) 0 ≡ 0
   unfolding settled
-  settled-held zero j hi h = absurd (omega arith)
-  settled-held (suc k) j hi h = go (ℕ_discrete j k) (settled-held k j)
+  settled_held zero j hi h = absurd (omega arith)
+  settled_held (suc k) j hi h = go (ℕ_discrete j k) (settled_held k j)
     where
       side : Bool
       side = get_or sides k false
 
       go : Dec (j ≡ k) → (k ≤ 64 → j < k → get_or (settled l sides k) (at held j) 0 ≡ 0)
           → get_or (moved (settled l sides k) (at held k) (at (closes_to side) k) (get_or (settled l sides k) (at held k) 0)) (at held j) 0 ≡ 0
-      go (yes e) before = rw e (moved-held (settled l sides k) (closes_to side) k (omega arith) (closes_above side) (closes_below side) (stays k))
+      go (yes e) before = rw e (moved_held (settled l sides k) (closes_to side) k (omega arith) (closes_above side) (closes_below side) (stays k))
       go (no d) before =
-          moved-elsewhere (settled l sides k) (closes_to side) k (omega arith) (closes_above side) (closes_below side) (stays k) held j (omega arith) d
+          moved_elsewhere (settled l sides k) (closes_to side) k (omega arith) (closes_above side) (closes_below side) (stays k) held j (omega arith) d
           ∙ before (omega arith) (omega arith)
 
   -- and its holding is in gas or waste water, by its side
@@ -169,15 +169,15 @@ module _ (l : List ℕ) (sides : List Bool) (long : length l ≡ 576) where
       go (yes e) before =
           rw e
           (moved_at m (closes_to side) k (omega arith) (closes_above side) (closes_below side) (stays k) account some
-          ∙ ap (λ (x : ℕ). x + cond (eqb account (closes_to side)) (get_or m (at held k) 0) 0) (settled-later k k account (omega arith) (omega arith) few)
-          ∙ ap (λ (x : ℕ). get_or l (at account k) 0 + cond (eqb account (closes_to side)) x 0) (settled-later k k held (omega arith) (omega arith) (omega arith)))
+          ∙ ap (λ (x : ℕ). x + cond (eqb account (closes_to side)) (get_or m (at held k) 0) 0) (settled_later k k account (omega arith) (omega arith) few)
+          ∙ ap (λ (x : ℕ). get_or l (at account k) 0 + cond (eqb account (closes_to side)) x 0) (settled_later k k held (omega arith) (omega arith) (omega arith)))
       go (no d) before =
-          moved-elsewhere m (closes_to side) k (omega arith) (closes_above side) (closes_below side) (stays k) account j (omega arith) d
+          moved_elsewhere m (closes_to side) k (omega arith) (closes_above side) (closes_below side) (stays k) account j (omega arith) d
           ∙ before (omega arith) (omega arith) some few
 
   pub emptied : (k s : ℕ) → k < 8 → s < 8 → cell (settled l sides 64) held k s ≡ 0
-  emptied k s hk hs = settled-held 64 (k * 8 + s) (omega arith) (omega arith)
+  emptied k s hk hs = settled_held 64 (k * 8 + s) (omega arith) (omega arith)
 
-  pub closed-to : (account k s : ℕ) → 1 ≤ account → account < 9 → k < 8 → s < 8
+  pub closed_to : (account k s : ℕ) → 1 ≤ account → account < 9 → k < 8 → s < 8
       → cell (settled l sides 64) account k s ≡ cell l account k s + cond (eqb account (closes_to (get_or sides (k * 8 + s) false))) (cell l held k s) 0
-  closed-to account k s low high hk hs = settled_at 64 (k * 8 + s) account (omega arith) (omega arith) low high
+  closed_to account k s low high hk hs = settled_at 64 (k * 8 + s) account (omega arith) (omega arith) low high

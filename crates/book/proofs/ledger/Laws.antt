@@ -9,7 +9,7 @@ use native.Mathlib.Omega.{arith}
 use lib.ListN.{length, get_or, set, length-set}
 use lib.Seq.{get_or-set_same, get_or-set_other}
 use Rattle.encoding.specs.Each.{sum_to, put_to}
-use Rattle.encoding.proofs.Each.{put-again, length-put, put_other, put-at, sum_same, sum_point, term_le}
+use Rattle.encoding.proofs.Each.{put_again, length-put, put_other, put_at, sum_same, sum_point, term_le}
 use Rattle.kinds.specs.Account.{held, closes_to}
 use Rattle.book.specs.Ledger.{at, cell_of, cell, total, moved, raised, settled}
 
@@ -63,8 +63,8 @@ pub length_moved : (l : List ℕ) (from to n : ℕ) → length (moved l from to 
 length_moved l from to n = simp length-set
 
 module _ (l : List ℕ) (account stage s n : ℕ) (ha : account < 9) (hst : stage < 8) (hs : s < 8) (long : length l ≡ 576) (have : n ≤ cell l held stage s) where
-  total-moved-same : total (moved l (cell_of held stage s) (cell_of account stage s) n) s ≡ total l s
-  total-moved-same =
+  total_moved_same : total (moved l (cell_of held stage s) (cell_of account stage s) n) s ≡ total l s
+  total_moved_same =
       let m = set l (cell_of held stage s) (cell l held stage s - n) in
       omega (
         arith,
@@ -73,33 +73,33 @@ module _ (l : List ℕ) (account stage s n : ℕ) (ha : account < 9) (hst : stag
       )
 
   -- a transfer keeps every total
-  pub total-moved : (t : ℕ) → t < 8 → total (moved l (cell_of held stage s) (cell_of account stage s) n) t ≡ total l t
-  total-moved t ht = go (ℕ_discrete t s)
+  pub total_moved : (t : ℕ) → t < 8 → total (moved l (cell_of held stage s) (cell_of account stage s) n) t ≡ total l t
+  total_moved t ht = go (ℕ_discrete t s)
     where
       go : Dec (t ≡ s) → total (moved l (cell_of held stage s) (cell_of account stage s) n) t ≡ total l t
-      go (yes e) = rw e total-moved-same
+      go (yes e) = rw e total_moved_same
       go (no d) =
           let m = set l (cell_of held stage s) (cell l held stage s - n) in
           total_other m account stage s (cell m account stage s + n) t hs ht d ∙ total_other l held stage s (cell l held stage s - n) t hs ht d
 
   -- what the account then holds is at most the total
-  pub grown-le : cell (set l (cell_of held stage s) (cell l held stage s - n)) account stage s + n ≤ total l s
-  grown-le =
+  pub grown_le : cell (set l (cell_of held stage s) (cell l held stage s - n)) account stage s + n ≤ total l s
+  grown_le =
       let m = set l (cell_of held stage s) (cell l held stage s - n) in
       let v = cell m account stage s + n in
       let stays : length m ≡ 576 = length-set l (cell_of held stage s) (cell l held stage s - n) ∙ long in
-      omega (arith, cell_le (set m (cell_of account stage s) v) account stage s ha hst, get_or-set_same m (cell_of account stage s) v 0 (omega arith), total-moved-same)
+      omega (arith, cell_le (set m (cell_of account stage s) v) account stage s ha hst, get_or-set_same m (cell_of account stage s) v 0 (omega arith), total_moved_same)
 
 -- the same by the pair's place
 module _ (l : List ℕ) (account pair n : ℕ) (ha : account < 9) (hp : pair < 64) (long : length l ≡ 576) (have : n ≤ get_or l (at held pair) 0) where
   digits : pair / 8 * 8 + pair % 8 ≡ pair
   digits = omega arith
 
-  pub total-moved-at : (t : ℕ) → t < 8 → total (moved l (at held pair) (at account pair) n) t ≡ total l t
-  total-moved-at t ht = rw digits at (total-moved l account (pair / 8) (pair % 8) n ha (omega arith) (omega arith) long (rw digits have) t ht)
+  pub total_moved_at : (t : ℕ) → t < 8 → total (moved l (at held pair) (at account pair) n) t ≡ total l t
+  total_moved_at t ht = rw digits at (total_moved l account (pair / 8) (pair % 8) n ha (omega arith) (omega arith) long (rw digits have) t ht)
 
-  pub grown-le-at : get_or (set l (at held pair) (get_or l (at held pair) 0 - n)) (at account pair) 0 + n ≤ total l (pair % 8)
-  grown-le-at = rw digits at (grown-le l account (pair / 8) (pair % 8) n ha (omega arith) (omega arith) long (rw digits have))
+  pub grown_le_at : get_or (set l (at held pair) (get_or l (at held pair) 0 - n)) (at account pair) 0 + n ≤ total l (pair % 8)
+  grown_le_at = rw digits at (grown_le l account (pair / 8) (pair % 8) n ha (omega arith) (omega arith) long (rw digits have))
 
 -- ---- the close
 
@@ -109,17 +109,17 @@ closes_below true = omega arith
 closes_below false = omega arith
 
 module _ (l : List ℕ) (sides : List Bool) where
-  settled-again : (k : ℕ) → settled l sides (k + 1) ≡ moved (settled l sides k) (at held k) (at (closes_to (get_or sides k false)) k) (get_or (settled l sides k) (at held k) 0)
+  settled_again : (k : ℕ) → settled l sides (k + 1) ≡ moved (settled l sides k) (at held k) (at (closes_to (get_or sides k false)) k) (get_or (settled l sides k) (at held k) 0)
   unfolding settled
-  settled-again k = rw add-one
+  settled_again k = rw add-one
 
   -- one pair more
-  pub settled-more : (k : ℕ) (out : List ℕ) (to : ℕ) → out ≡ settled l sides k → to ≡ closes_to (get_or sides k false)
+  pub settled_more : (k : ℕ) (out : List ℕ) (to : ℕ) → out ≡ settled l sides k → to ≡ closes_to (get_or sides k false)
       → moved out (at held k) (at to k) (get_or out (at held k) 0) ≡ settled l sides (k + 1)
-  settled-more k out to e w =
+  settled_more k out to e w =
       ap (λ (x : List ℕ). moved x (at held k) (at to k) (get_or x (at held k) 0)) e
       ∙ ap (λ (x : ℕ). moved (settled l sides k) (at held k) (at x k) (get_or (settled l sides k) (at held k) 0)) w
-      ∙ sym (settled-again k)
+      ∙ sym (settled_again k)
 
   pub length-settled : (k : ℕ) → length (settled l sides k) ≡ length l
   unfolding settled
@@ -127,24 +127,24 @@ module _ (l : List ℕ) (sides : List Bool) where
   length-settled (suc k) = length_moved (settled l sides k) (at held k) (at (closes_to (get_or sides k false)) k) (get_or (settled l sides k) (at held k) 0) ∙ length-settled k
 
   -- closing keeps every total
-  pub total-settled : (k t : ℕ) → k ≤ 64 → t < 8 → length l ≡ 576 → total (settled l sides k) t ≡ total l t
+  pub total_settled : (k t : ℕ) → k ≤ 64 → t < 8 → length l ≡ 576 → total (settled l sides k) t ≡ total l t
   unfolding settled
-  total-settled zero t hk ht long = refl
-  total-settled (suc k) t hk ht long =
-      total-moved-at (settled l sides k) (closes_to (get_or sides k false)) k (get_or (settled l sides k) (at held k) 0)
+  total_settled zero t hk ht long = refl
+  total_settled (suc k) t hk ht long =
+      total_moved_at (settled l sides k) (closes_to (get_or sides k false)) k (get_or (settled l sides k) (at held k) 0)
       (closes_below (get_or sides k false)) (omega arith) (length-settled k ∙ long) (omega arith) t ht
-      ∙ total-settled k t (omega arith) ht long
+      ∙ total_settled k t (omega arith) ht long
 
   -- what a pair's account then holds is within what bounds the totals
-  pub settled-room : (k : ℕ) (out : List ℕ) (to most : ℕ) → out ≡ settled l sides k → k < 64 → to < 9 → length l ≡ 576 → ((s : ℕ) → s < 8 → total l s < most)
+  pub settled_room : (k : ℕ) (out : List ℕ) (to most : ℕ) → out ≡ settled l sides k → k < 64 → to < 9 → length l ≡ 576 → ((s : ℕ) → s < 8 → total l s < most)
       → get_or (set out (at held k) (get_or out (at held k) 0 - get_or out (at held k) 0)) (at to k) 0 + get_or out (at held k) 0 < most
-  settled-room k out to most e hk ht long few =
+  settled_room k out to most e hk ht long few =
       let stays : length out ≡ 576 = ap length e ∙ length-settled k ∙ long in
       omega (
         arith,
-        grown-le-at out to k (get_or out (at held k) 0) ht hk stays (omega arith),
+        grown_le_at out to k (get_or out (at held k) 0) ht hk stays (omega arith),
         ap (λ (x : List ℕ). total x (k % 8)) e,
-        total-settled k (k % 8) (omega arith) (omega arith) long,
+        total_settled k (k % 8) (omega arith) (omega arith) long,
         few (k % 8) (omega arith),
       )
 
@@ -155,23 +155,23 @@ module _ (place amount : ℕ → ℕ) (l : List ℕ) where
   length-raised n = length-put place (λ k. get_or l (place k) 0 + amount k) l n
 
   -- a place that is not among those raised yet stands
-  pub raised-later : (n j : ℕ) → ((i k : ℕ) → place i ≡ place k → i ≡ k) → n ≤ j → get_or (raised place amount l n) (place j) 0 ≡ get_or l (place j) 0
-  raised-later n j own h = put_other place (λ k. get_or l (place k) 0 + amount k) l n (place j) 0 (λ i g e. let d : j ≡ i = own j i e in omega arith)
+  pub raised_later : (n j : ℕ) → ((i k : ℕ) → place i ≡ place k → i ≡ k) → n ≤ j → get_or (raised place amount l n) (place j) 0 ≡ get_or l (place j) 0
+  raised_later n j own h = put_other place (λ k. get_or l (place k) 0 + amount k) l n (place j) 0 (λ i g e. let d : j ≡ i = own j i e in omega arith)
 
   pub raised_at : (n j : ℕ) → ((i k : ℕ) → place i ≡ place k → i ≡ k) → j < n → place j < length l → get_or (raised place amount l n) (place j) 0 ≡ get_or l (place j) 0 + amount j
-  raised_at n j own h g = put-at place (λ k. get_or l (place k) 0 + amount k) l n j 0 own h g
+  raised_at n j own h g = put_at place (λ k. get_or l (place k) 0 + amount k) l n j 0 own h g
 
 -- one place more
 module _ (place amount : ℕ → ℕ) (l : List ℕ) (own : (i k : ℕ) → place i ≡ place k → i ≡ k) (n : ℕ)
     (out : List ℕ) (v : ℕ) (e : out ≡ raised place amount l n) (w : v ≡ amount n) where
   grows : get_or out (place n) 0 + v ≡ get_or l (place n) 0 + amount n
-  grows = omega (arith, ap (λ (x : List ℕ). get_or x (place n) 0) e, raised-later place amount l n n own (omega arith))
+  grows = omega (arith, ap (λ (x : List ℕ). get_or x (place n) 0) e, raised_later place amount l n n own (omega arith))
 
-  pub raised-room : (most : ℕ) → get_or l (place n) 0 + amount n < most → get_or out (place n) 0 + v < most
-  raised-room most h = omega (arith, grows)
+  pub raised_room : (most : ℕ) → get_or l (place n) 0 + amount n < most → get_or out (place n) 0 + v < most
+  raised_room most h = omega (arith, grows)
 
-  pub raised-again : set out (place n) (get_or out (place n) 0 + v) ≡ raised place amount l (n + 1)
-  raised-again = put-again place (λ k. get_or l (place k) 0 + amount k) l n out (get_or out (place n) 0 + v) e grows
+  pub raised_again : set out (place n) (get_or out (place n) 0 + v) ≡ raised place amount l (n + 1)
+  raised_again = put_again place (λ k. get_or l (place k) 0 + amount k) l n out (get_or out (place n) 0 + v) e grows
 
 -- what was handled of a substance grows by its amount
 pub handled_raised : (amount : ℕ → ℕ) (l : List ℕ) (s : ℕ) → length l ≡ 8 → s < 8 → get_or (raised (λ k. k) amount l 8) s 0 ≡ get_or l s 0 + amount s
@@ -181,17 +181,17 @@ pub own_place : (stage i k : ℕ) → cell_of held stage i ≡ cell_of held stag
 own_place stage i k e = omega arith
 
 module _ (amount : ℕ → ℕ) (l : List ℕ) (stage : ℕ) (hst : stage < 8) (long : length l ≡ 576) where
-  raised-before : (n s : ℕ) → n ≤ s → s < 8 → total (raised (cell_of held stage) amount l n) s ≡ total l s
+  raised_before : (n s : ℕ) → n ≤ s → s < 8 → total (raised (cell_of held stage) amount l n) s ≡ total l s
   unfolding put_to
-  raised-before zero s h hs = refl
-  raised-before (suc n) s h hs =
+  raised_before zero s h hs = refl
+  raised_before (suc n) s h hs =
       total_other (raised (cell_of held stage) amount l n) held stage n (cell l held stage n + amount n) s (omega arith) hs (λ e. omega arith)
-      ∙ raised-before n s (omega arith) hs
+      ∙ raised_before n s (omega arith) hs
 
-  raised-total-to : (n s : ℕ) → s < n → n ≤ 8 → total (raised (cell_of held stage) amount l n) s ≡ total l s + amount s
+  raised_total_to : (n s : ℕ) → s < n → n ≤ 8 → total (raised (cell_of held stage) amount l n) s ≡ total l s + amount s
   unfolding put_to
-  raised-total-to zero s h hn = absurd (omega arith)
-  raised-total-to (suc n) s h hn = go (ℕ_discrete s n) (raised-total-to n s)
+  raised_total_to zero s h hn = absurd (omega arith)
+  raised_total_to (suc n) s h hn = go (ℕ_discrete s n) (raised_total_to n s)
     where
       go : Dec (s ≡ n) → (s < n → n ≤ 8 → total (raised (cell_of held stage) amount l n) s ≡ total l s + amount s)
           → total (set (raised (cell_of held stage) amount l n) (cell_of held stage n) (cell l held stage n + amount n)) s ≡ total l s + amount s
@@ -200,13 +200,13 @@ module _ (amount : ℕ → ℕ) (l : List ℕ) (stage : ℕ) (hst : stage < 8) (
           (omega (
             arith,
             total_set (raised (cell_of held stage) amount l n) held stage n (cell l held stage n + amount n) (omega arith) hst (omega arith) (length-raised (cell_of held stage) amount l n ∙ long),
-            raised-later (cell_of held stage) amount l n n (own_place stage) (omega arith),
-            raised-before n n (omega arith) (omega arith),
+            raised_later (cell_of held stage) amount l n n (own_place stage) (omega arith),
+            raised_before n n (omega arith) (omega arith),
           ))
       go (no d) before =
           total_other (raised (cell_of held stage) amount l n) held stage n (cell l held stage n + amount n) s (omega arith) (omega arith) d
           ∙ before (omega arith) (omega arith)
 
   -- the total of each substance grows by its amount
-  pub total-raised : (s : ℕ) → s < 8 → total (raised (cell_of held stage) amount l 8) s ≡ total l s + amount s
-  total-raised s hs = raised-total-to 8 s hs (omega arith)
+  pub total_raised : (s : ℕ) → s < 8 → total (raised (cell_of held stage) amount l 8) s ≡ total l s + amount s
+  total_raised s hs = raised_total_to 8 s hs (omega arith)

@@ -45,9 +45,9 @@ module _ (u : Setup) (y : Year) (s : List ℕ) where
   asks = admitted u.outline u.numbers y.closed y.posts s
 
   -- a post that isn't admitted is declined
-  pub not-admitted : (n : ℕ) → asks ≡ declined n → post_on u y s ≡ declined n
+  pub not_admitted : (n : ℕ) → asks ≡ declined n → post_on u y s ≡ declined n
   unfolding post_on
-  not-admitted n e = ap (λ (x : Answer Move). on_taken x (entered u y)) e
+  not_admitted n e = ap (λ (x : Answer Move). on_taken x (entered u y)) e
 
   -- what is known of a move that is admitted
   pub record Admitted (m : Move) : Type 0 where
@@ -71,9 +71,9 @@ module _ (u : Setup) (y : Year) (s : List ℕ) where
       }
 
   -- it is taken where what leaves is there
-  pub on-there : (m : Move) → asks ≡ taken m → post_on u y s ≡ checked (check (is_there y.store y.sums m) short ∷ []) (year_after u y m)
+  pub on_there : (m : Move) → asks ≡ taken m → post_on u y s ≡ checked (check (is_there y.store y.sums m) short ∷ []) (year_after u y m)
   unfolding post_on entered
-  on-there m e = ap (λ (x : Answer Move). on_taken x (entered u y)) e
+  on_there m e = ap (λ (x : Answer Move). on_taken x (entered u y)) e
 
 -- ---- what a post that is taken tells
 
@@ -104,28 +104,28 @@ module _ (u : Setup) (y : Year) (posts : ℕ → List ℕ) where
   unfolding taken_to
   none_yet = refl
 
-  pub taken-suc : (i : ℕ) → taken_to u y posts (suc i) ≡ on_taken (taken_to u y posts i) (λ z. post_on u z (posts i))
+  pub taken_suc : (i : ℕ) → taken_to u y posts (suc i) ≡ on_taken (taken_to u y posts i) (λ z. post_on u z (posts i))
   unfolding taken_to
-  taken-suc i = refl
+  taken_suc i = refl
 
   -- one post more
   pub taken_next : (i : ℕ) (z : Year) → taken_to u y posts i ≡ taken z → taken_to u y posts (i + 1) ≡ post_on u z (posts i)
-  taken_next i z e = ap (taken_to u y posts) (add-one i) ∙ taken-suc i ∙ ap (λ (x : Answer Year). on_taken x (λ d. post_on u d (posts i))) e
+  taken_next i z e = ap (taken_to u y posts) (add-one i) ∙ taken_suc i ∙ ap (λ (x : Answer Year). on_taken x (λ d. post_on u d (posts i))) e
 
   -- a decline stands, whatever posts follow
-  pub stays-declined : (i m n : ℕ) → taken_to u y posts i ≡ declined n → i ≤ m → taken_to u y posts m ≡ declined n
-  stays-declined i zero n e h = let q : 0 ≡ i = omega arith in ap (taken_to u y posts) q ∙ e
-  stays-declined i (suc m) n e h = go (ℕ_discrete i (suc m)) (stays-declined i m n e)
+  pub stays_declined : (i m n : ℕ) → taken_to u y posts i ≡ declined n → i ≤ m → taken_to u y posts m ≡ declined n
+  stays_declined i zero n e h = let q : 0 ≡ i = omega arith in ap (taken_to u y posts) q ∙ e
+  stays_declined i (suc m) n e h = go (ℕ_discrete i (suc m)) (stays_declined i m n e)
     where
       go : Dec (i ≡ suc m) → (i ≤ m → taken_to u y posts m ≡ declined n) → taken_to u y posts (suc m) ≡ declined n
       go (yes q) before = ap (taken_to u y posts) (sym q) ∙ e
-      go (no d) before = taken-suc m ∙ ap (λ (x : Answer Year). on_taken x (λ z. post_on u z (posts m))) (before (omega arith))
+      go (no d) before = taken_suc m ∙ ap (λ (x : Answer Year). on_taken x (λ z. post_on u z (posts m))) (before (omega arith))
 
 -- posts that are taken keep a year sound
 pub many_sound : (u : Setup) (y z : Year) (posts : ℕ → List ℕ) (n : ℕ) → SoundSetup u → SoundYear u y → taken_to u y posts n ≡ taken z → SoundYear u z
 many_sound u y z posts zero su h e = let q : y ≡ z = cc (none_yet u y posts) in subst (SoundYear u) q h
 many_sound u y z posts (suc n) su h e =
-    let a = was_taken (taken_to u y posts n) (λ d. post_on u d (posts n)) z (sym (taken-suc u y posts n) ∙ e) in
+    let a = was_taken (taken_to u y posts n) (λ d. post_on u d (posts n)) z (sym (taken_suc u y posts n) ∙ e) in
     (post_step u a.0 z (posts n) su (many_sound u y a.0 posts n su h a.1) (posted u a.0 z (posts n) a.2)).sound
 
 -- ---- parts of the bytes
@@ -180,40 +180,40 @@ module _ (t : Turn) where
   abbrev all : ℕ → Answer Year
   all = taken_to u t.given t.posts
 
-  still-sound : SoundYear u y
-  still-sound = many_sound u t.given y t.posts t.place t.sound_setup t.sound t.so_far
+  still_sound : SoundYear u y
+  still_sound = many_sound u t.given y t.posts t.place t.sound_setup t.sound t.so_far
 
-  next-is : all (t.place + 1) ≡ post_on u y bytes
-  next-is = taken_next u t.given t.posts t.place y t.so_far
+  next_is : all (t.place + 1) ≡ post_on u y bytes
+  next_is = taken_next u t.given t.posts t.place y t.so_far
 
   module _ (n : ℕ) (more : t.place < n) where
-    pub turn-declined : (d : ℕ) → tried ≡ declined d → all n ≡ declined d
-    turn-declined d e = stays-declined u t.given t.posts (t.place + 1) n d (next-is ∙ not-admitted u y bytes d e) (omega arith)
+    pub turn_declined : (d : ℕ) → tried ≡ declined d → all n ≡ declined d
+    turn_declined d e = stays_declined u t.given t.posts (t.place + 1) n d (next_is ∙ not_admitted u y bytes d e) (omega arith)
 
-    pub turn-short : (m : Move) → tried ≡ taken m → is_there y.store y.sums m ≡ false → all n ≡ declined short
+    pub turn_short : (m : Move) → tried ≡ taken m → is_there y.store y.sums m ≡ false → all n ≡ declined short
     unfolding checked
-    turn-short m e f =
-        stays-declined u t.given t.posts (t.place + 1) n short (next-is ∙ on-there u y bytes m e ∙ rw f) (omega arith)
+    turn_short m e f =
+        stays_declined u t.given t.posts (t.place + 1) n short (next_is ∙ on_there u y bytes m e ∙ rw f) (omega arith)
 
   module _ (m : Move) (e : tried ≡ taken m) where
-    pub turn-room : Room u.counted y.store y.sums y.handled m
-    turn-room =
+    pub turn_room : Room u.counted y.store y.sums y.handled m
+    turn_room =
         let a = admits u y bytes m e in
-        room_of u y t.sound_setup still-sound m (move_fits u.outline u.numbers bytes m a.told)
+        room_of u y t.sound_setup still_sound m (move_fits u.outline u.numbers bytes m a.told)
 
-    pub turn-few : y.posts ≤ 4000
-    turn-few = open_few u y still-sound (admits u y bytes m e).is_open
+    pub turn_few : y.posts ≤ 4000
+    turn_few = open_few u y still_sound (admits u y bytes m e).is_open
 
-    pub turn-taken : is_there y.store y.sums m ≡ true → all (t.place + 1) ≡ taken (year_after u y m)
+    pub turn_taken : is_there y.store y.sums m ≡ true → all (t.place + 1) ≡ taken (year_after u y m)
     unfolding checked
-    turn-taken f = next-is ∙ on-there u y bytes m e ∙ rw f
+    turn_taken f = next_is ∙ on_there u y bytes m e ∙ rw f
 
     -- by the lists as they were entered
-    pub turn-entered : (store sums handled : List ℕ) (r closed : Bool) → Entered u.counted u.to_water y.store y.sums y.handled m store sums handled r
+    pub turn_entered : (store sums handled : List ℕ) (r closed : Bool) → Entered u.counted u.to_water y.store y.sums y.handled m store sums handled r
         → r ≡ true → closed ≡ closes m
         → all (t.place + 1) ≡ taken (year_with store sums handled (y.posts + 1) closed)
-    turn-entered store sums handled r closed w q k =
-        turn-taken (sym w.there ∙ q)
+    turn_entered store sums handled r closed w q k =
+        turn_taken (sym w.there ∙ q)
         ∙ ap taken (sym
         (ap (λ (l : List ℕ). year_with l sums handled (y.posts + 1) closed) (w.store_is q)
         ∙ ap (λ (l : List ℕ). year_with (store_after y.store m) l handled (y.posts + 1) closed) (w.sums_is q)
@@ -269,18 +269,18 @@ module _ (u : Setup) (y : Year) (count : ℕ) (body : List ℕ) where
   abbrev pub own : Answer ℕ
   own = checked (own_checks u.outline y.closed count body) count
 
-  pub own-declined : (n : ℕ) → own ≡ declined n → posts_on u y count body ≡ declined n
+  pub own_declined : (n : ℕ) → own ≡ declined n → posts_on u y count body ≡ declined n
   unfolding posts_on
-  own-declined n e = rw e
+  own_declined n e = rw e
 
-  pub own-taken : own ≡ taken count → posts_on u y count body ≡ taken_to u y (post_in body) count
+  pub own_taken : own ≡ taken count → posts_on u y count body ≡ taken_to u y (post_in body) count
   unfolding posts_on
-  own-taken e = rw e
+  own_taken e = rw e
 
   -- what a block of posts that is taken tells
-  pub posts-taken : (z : Year) → posts_on u y count body ≡ taken z → Owned u.outline y.closed count body × (taken_to u y (post_in body) count ≡ taken z)
+  pub posts_taken_lem : (z : Year) → posts_on u y count body ≡ taken z → Owned u.outline y.closed count body × (taken_to u y (post_in body) count ≡ taken z)
   unfolding posts_on
-  posts-taken z e =
+  posts_taken_lem z e =
       let a = was_taken own (taken_to u y (post_in body)) z e in
       let o = owned u.outline y.closed count body count a.0 a.1 in
       (o.0, ap (taken_to u y (post_in body)) (sym o.1) ∙ a.2)

@@ -20,7 +20,7 @@ use Rattle.layout.specs.declared.holds.SetupPart.{SetupPart}
 use Rattle.layout.specs.declared.outline.Outline.{Outline}
 use Rattle.layout.proofs.Checked as table
 use Rattle.layout.proofs.Checked.{pass_taken}
-use Rattle.layout.proofs.frame.Made.{held-made, count-made, body-made, made-passes}
+use Rattle.layout.proofs.frame.Made.{held_made, count_made, body_made, made_passes}
 use Rattle.layout.proofs.holds.Laws.{of_posts_lem}
 use Rattle.post.specs.Moves.{well_formed}
 use Rattle.pages.specs.Tally.{part_checks, outline_after}
@@ -66,28 +66,28 @@ module _ (kind count number : ℕ) (body : List ℕ) (part : SetupPart) (holds :
   set = block_of kind count number body
 
   of_part : holds_of (block_kind set) ≡ taken (SetUp part)
-  of_part = held-made kind count number body (SetUp part) holds
+  of_part = held_made kind count number body (SetUp part) holds
 
-  pub set-up-holds : posts_in set ≡ []
-  set-up-holds = ap (posts_by set) of_part
+  pub set_up_holds : posts_in set ≡ []
+  set_up_holds = ap (posts_by set) of_part
 
   module _ (o : Outline) (long : length body ≡ 500) where
     -- its count and body are those that it was made of
     told : {A : Type 0} (f : ℕ → List ℕ → A) → f (count_of set) (body_of set) ≡ f count body
     told f =
-        ap (λ (n : ℕ). f n (body_of set)) (count-made kind count number body)
-        ∙ ap (λ (s : List ℕ). f count s) (body-made kind count number body long)
+        ap (λ (n : ℕ). f n (body_of set)) (count_made kind count number body)
+        ∙ ap (λ (s : List ℕ). f count s) (body_made kind count number body long)
 
-    pub set-up-outline : outline_past o set ≡ outline_after o part count body
-    set-up-outline = ap (outline_by o set) of_part ∙ told (outline_after o part)
+    pub set_up_outline : outline_past o set ≡ outline_after o part count body
+    set_up_outline = ap (outline_by o set) of_part ∙ told (outline_after o part)
 
     rows_are : body_rows o set (SetUp part) ≡ part_checks o part count body
     rows_are = told (part_checks o part)
 
-    pub set-up-passes : number < 65536 → table.AllPass (part_checks o part count body) → Passes number o set
-    set-up-passes small rows =
+    pub set_up_passes : number < 65536 → table.AllPass (part_checks o part count body) → Passes number o set
+    set_up_passes small rows =
         record {
-          frame = ap is_taken (made-passes kind count number body long set (ap is_taken holds) small);
+          frame = ap is_taken (made_passes kind count number body long set (ap is_taken holds) small);
           body =
               ap (λ (a : Answer Holds). is_taken (on_taken a (λ h. checked (body_rows o set h) set))) of_part
               ∙ ap (λ (r : List Check). is_taken (checked r set)) rows_are
@@ -121,62 +121,62 @@ abbrev pub posts_body : List (List ℕ) → List ℕ
 posts_body posts = padded 500 (joined posts)
 
 module _ (number : ℕ) (posts : List (List ℕ)) where
-  abbrev pub blockOfPosts : List ℕ
-  blockOfPosts = block_of 3 (length posts) number (posts_body posts)
+  abbrev pub block_of_posts : List ℕ
+  block_of_posts = block_of 3 (length posts) number (posts_body posts)
 
-  is-posts : holds_of (block_kind blockOfPosts) ≡ taken Posts
-  is-posts = held-made 3 (length posts) number (posts_body posts) Posts of_posts_lem
+  is_posts : holds_of (block_kind block_of_posts) ≡ taken Posts
+  is_posts = held_made 3 (length posts) number (posts_body posts) Posts of_posts_lem
 
-  pub posts-outline : (o : Outline) → outline_past o blockOfPosts ≡ o
-  posts-outline o = ap (outline_by o blockOfPosts) is-posts
+  pub posts_outline : (o : Outline) → outline_past o block_of_posts ≡ o
+  posts_outline o = ap (outline_by o block_of_posts) is_posts
 
   module _ (each : EachLong 48 posts) (few : length posts ≤ 10) where
     joined_is : length (joined posts) ≡ length posts * 48
     joined_is = joined_long 48 posts each
 
-    pub body-long : length (posts_body posts) ≡ 500
-    body-long = omega (arith, length-append (joined posts) (zeros (500 - length (joined posts))), zeros_long (500 - length (joined posts)), joined_is)
+    pub body_long : length (posts_body posts) ≡ 500
+    body_long = omega (arith, length-append (joined posts) (zeros (500 - length (joined posts))), zeros_long (500 - length (joined posts)), joined_is)
 
-    body_is : body_of blockOfPosts ≡ posts_body posts
-    body_is = body-made 3 (length posts) number (posts_body posts) body-long
+    body_is : body_of block_of_posts ≡ posts_body posts
+    body_is = body_made 3 (length posts) number (posts_body posts) body_long
 
-    count-is : count_of blockOfPosts ≡ length posts
-    count-is = count-made 3 (length posts) number (posts_body posts)
+    count_is : count_of block_of_posts ≡ length posts
+    count_is = count_made 3 (length posts) number (posts_body posts)
 
-    pub posts-held : posts_in blockOfPosts ≡ posts
-    posts-held =
-        ap (posts_by blockOfPosts) is-posts
-        ∙ ap (λ (n : ℕ). list_to n (post_in (body_of blockOfPosts))) count-is
+    pub posts_held : posts_in block_of_posts ≡ posts
+    posts_held =
+        ap (posts_by block_of_posts) is_posts
+        ∙ ap (λ (n : ℕ). list_to n (post_in (body_of block_of_posts))) count_is
         ∙ ap (λ (s : List ℕ). list_to (length posts) (post_in s)) body_is
         ∙ parts_are 48 posts (zeros (500 - length (joined posts))) each
 
     -- the places behind the last post are zero
-    rest-zero : all_zero (drop (length posts * 48) (posts_body posts)) ≡ true
-    rest-zero =
+    rest_zero : all_zero (drop (length posts * 48) (posts_body posts)) ≡ true
+    rest_zero =
         let z : List ℕ = zeros (500 - length (joined posts)) in
         ap all_zero (drop_at (joined posts) z (length posts * 48) joined_is) ∙ zeros_zero (500 - length (joined posts))
 
     module _ (o : Outline) (turn : may_post o ≡ true) (some : 1 ≤ length posts) where
-      own-rows : body_rows o blockOfPosts Posts ≡ own_checks o false (length posts) (posts_body posts)
-      own-rows =
-          ap (λ (n : ℕ). own_checks o false n (body_of blockOfPosts)) count-is
+      own_rows : body_rows o block_of_posts Posts ≡ own_checks o false (length posts) (posts_body posts)
+      own_rows =
+          ap (λ (n : ℕ). own_checks o false n (body_of block_of_posts)) count_is
           ∙ ap (λ (s : List ℕ). own_checks o false (length posts) s) body_is
 
-      own-pass : table.AllPass (own_checks o false (length posts) (posts_body posts))
-      own-pass = (turn, (refl, (eq-eqb (length (posts_body posts)) 500 body-long, (within_is 1 10 (length posts) some few, (rest-zero, tt)))))
+      own_pass : table.AllPass (own_checks o false (length posts) (posts_body posts))
+      own_pass = (turn, (refl, (eq-eqb (length (posts_body posts)) 500 body_long, (within_is 1 10 (length posts) some few, (rest_zero, tt)))))
 
-      post-at : (i : ℕ) → i < length posts → post_in (body_of blockOfPosts) i ≡ get_or posts i []
-      post-at i l = ap (λ (s : List ℕ). post_in s i) body_is ∙ part_is 48 posts (zeros (500 - length (joined posts))) each i l
+      post_at_lem : (i : ℕ) → i < length posts → post_in (body_of block_of_posts) i ≡ get_or posts i []
+      post_at_lem i l = ap (λ (s : List ℕ). post_in s i) body_is ∙ part_is 48 posts (zeros (500 - length (joined posts))) each i l
 
-      pub posts-pass : number < 65536 → EachFormed o posts → Passes number o blockOfPosts
-      posts-pass small formed =
+      pub posts_pass : number < 65536 → EachFormed o posts → Passes number o block_of_posts
+      posts_pass small formed =
           record {
-            frame = ap is_taken (made-passes 3 (length posts) number (posts_body posts) body-long blockOfPosts (ap is_taken of_posts_lem) small);
+            frame = ap is_taken (made_passes 3 (length posts) number (posts_body posts) body_long block_of_posts (ap is_taken of_posts_lem) small);
             body =
-                ap (λ (a : Answer Holds). is_taken (on_taken a (λ h. checked (body_rows o blockOfPosts h) blockOfPosts))) is-posts
-                ∙ ap (λ (r : List Check). is_taken (checked r blockOfPosts)) own-rows
-                ∙ ap is_taken (pass_taken (own_checks o false (length posts) (posts_body posts)) blockOfPosts own-pass);
+                ap (λ (a : Answer Holds). is_taken (on_taken a (λ h. checked (body_rows o block_of_posts h) block_of_posts))) is_posts
+                ∙ ap (λ (r : List Check). is_taken (checked r block_of_posts)) own_rows
+                ∙ ap is_taken (pass_taken (own_checks o false (length posts) (posts_body posts)) block_of_posts own_pass);
             posts = λ e i l.
-                let within : i < length posts = omega (arith, count-is) in
-                ap (λ (s : List ℕ). is_taken (well_formed o s)) (post-at i within) ∙ formed_at o posts formed i within;
+                let within : i < length posts = omega (arith, count_is) in
+                ap (λ (s : List ℕ). is_taken (well_formed o s)) (post_at_lem i within) ∙ formed_at o posts formed i within;
           }

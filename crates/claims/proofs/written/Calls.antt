@@ -16,7 +16,7 @@ use Rattle.pages.specs.Page.{Page, fresh_page}
 use Rattle.claims.specs.Written.{Sheet, of_posts, sheets, framed_from, blocks_of, ended_calls, posts_taken}
 use Rattle.claims.proofs.written.Accepted.{PostTaken, set_up_taken, post_taken}
 use Rattle.claims.proofs.written.Shows.{Shows, shows_fresh}
-use Rattle.claims.proofs.written.Steps.{shows-set-up, shows-tenth, shows-waiting, shows_same, shows_ended}
+use Rattle.claims.proofs.written.Steps.{shows_set_up, shows_tenth, shows_waiting, shows_same, shows_ended}
 use Rattle.claims.proofs.written.Sheets.{sheets_by, waiting_by, post_by, waiting_after, sheets_first, sheets_last, framed_long, framed_append, taken_first}
 
 -- ---- a call
@@ -27,16 +27,16 @@ blocks_by blocks waiting call = blocks ++ framed_from (length blocks) (sheets_by
 
 module _ (lent : List ℕ) (posts blocks : List (List ℕ)) (p q : Page) where
   -- a set-up block comes before any post
-  call-set-up : (waiting : List (List ℕ)) (kind count : ℕ) (body : List ℕ) → Shows lent posts blocks waiting p → answer_to p (set_up kind count body) ≡ taken q
+  call_set_up : (waiting : List (List ℕ)) (kind count : ℕ) (body : List ℕ) → Shows lent posts blocks waiting p → answer_to p (set_up kind count body) ≡ taken q
       → Shows lent (posts ++ []) (blocks_by blocks waiting (set_up kind count body)) waiting q
   unfolding framed_from
-  call-set-up [] kind count body h e =
+  call_set_up [] kind count body h e =
       let a = set_up_taken p q kind count body e in
       subst (λ (z : Page). Shows lent (posts ++ []) (blocks_by blocks [] (set_up kind count body)) [] z) (sym a.2)
       (subst (λ (n : ℕ). Shows lent (posts ++ []) (blocks ++ (block_of kind count n body ∷ [])) [] (page.with_part p kind a.0 count body)) h.number
       (subst (λ (l : List (List ℕ)). Shows lent l (blocks ++ (block_of kind count p.draft.tally.blocks body ∷ [])) [] (page.with_part p kind a.0 count body)) (sym (append-nil posts))
-      (shows-set-up lent posts blocks p kind a.0 count body h a.1)))
-  call-set-up (w ∷ ws) kind count body h e =
+      (shows_set_up lent posts blocks p kind a.0 count body h a.1)))
+  call_set_up (w ∷ ws) kind count body h e =
       let a = (set_up_taken p q kind count body e).1 in
       absurd (true≢false (sym (h.begun (omega arith)).in_turn ∙ a.not_yet))
 
@@ -47,19 +47,19 @@ module _ (lent : List ℕ) (posts blocks : List (List ℕ)) (p q : Page) where
       AfterPost t =
           Shows lent (posts ++ (s ∷ [])) (blocks ++ framed_from (length blocks) (cond t (of_posts (waiting ++ (s ∷ [])) ∷ []) [])) (cond t [] (waiting ++ (s ∷ []))) (page.posted p s)
 
-      by-room : PostTaken (length p.bytes) p.draft.tally s → Dec (length waiting ≡ 9) → AfterPost (eqb (length waiting) 9)
+      by_room : PostTaken (length p.bytes) p.draft.tally s → Dec (length waiting ≡ 9) → AfterPost (eqb (length waiting) 9)
       unfolding framed_from
-      by-room a (yes f) = subst AfterPost (sym (eq-eqb (length waiting) 9 f)) (shows-tenth lent posts blocks waiting p s h a f)
-      by-room a (no d) =
+      by_room a (yes f) = subst AfterPost (sym (eq-eqb (length waiting) 9 f)) (shows_tenth lent posts blocks waiting p s h a f)
+      by_room a (no d) =
           subst AfterPost (sym (ne_eqb (length waiting) 9 d))
           (subst (λ (bs : List (List ℕ)). Shows lent (posts ++ (s ∷ [])) bs (waiting ++ (s ∷ [])) (page.posted p s)) (sym (append-nil blocks))
-          (shows-waiting lent posts blocks waiting p s h a d))
+          (shows_waiting lent posts blocks waiting p s h a d))
 
-      call-post : answer_to p (post s) ≡ taken q → Shows lent (posts ++ (s ∷ [])) (blocks_by blocks waiting (post s)) (waiting_by waiting (post s)) q
-      call-post e =
+      call_post : answer_to p (post s) ≡ taken q → Shows lent (posts ++ (s ∷ [])) (blocks_by blocks waiting (post s)) (waiting_by waiting (post s)) q
+      call_post e =
           let a = post_taken p q s e in
           subst (λ (z : Page). Shows lent (posts ++ (s ∷ [])) (blocks_by blocks waiting (post s)) (waiting_by waiting (post s)) z) (sym a.1)
-          (by-room a.0 (ℕ_discrete (length waiting) 9))
+          (by_room a.0 (ℕ_discrete (length waiting) 9))
 
 -- an end is always accepted
 pub shows_end : (lent : List ℕ) (posts blocks waiting : List (List ℕ)) (p : Page) → Shows lent posts blocks waiting p
@@ -73,8 +73,8 @@ shows_end lent posts blocks (w ∷ ws) p h =
 -- every accepted call keeps what the page shows
 pub shows_call : (lent : List ℕ) (posts blocks waiting : List (List ℕ)) (p q : Page) (call : Call) → Shows lent posts blocks waiting p → answer_to p call ≡ taken q
     → Shows lent (posts ++ post_by call) (blocks_by blocks waiting call) (waiting_by waiting call) q
-shows_call lent posts blocks waiting p q (set_up kind count body) h e = call-set-up lent posts blocks p q waiting kind count body h e
-shows_call lent posts blocks waiting p q (post s) h e = call-post lent posts blocks p q waiting h s e
+shows_call lent posts blocks waiting p q (set_up kind count body) h e = call_set_up lent posts blocks p q waiting kind count body h e
+shows_call lent posts blocks waiting p q (post s) h e = call_post lent posts blocks p q waiting h s e
 shows_call lent posts blocks waiting p q end h e =
     let is : page.ended p ≡ q = cc in
     subst (λ (z : Page). Shows lent (posts ++ []) (blocks_by blocks waiting end) [] z) is
@@ -125,32 +125,32 @@ module _ (lent : List ℕ) where
       (rest (posts ++ post_by call) (blocks_by blocks waiting call) (waiting_by waiting call) q (shows_call lent posts blocks waiting p q call h e))
 
   -- all calls, one by one
-  shows-all : (calls : List Call) → Keeps calls
+  shows_all : (calls : List Call) → Keeps calls
   unfolding run accepted posts_taken sheets framed_from
-  shows-all [] posts blocks waiting p h =
+  shows_all [] posts blocks waiting p h =
       subst (λ (l : List (List ℕ)). Shows lent l (blocks ++ []) waiting p) (sym (append-nil posts))
       (subst (λ (bs : List (List ℕ)). Shows lent posts bs waiting p) (sym (append-nil blocks)) h)
-  shows-all (call ∷ calls) posts blocks waiting p h = first_call posts blocks waiting p call calls h (shows-all calls) (answer_to p call) refl
+  shows_all (call ∷ calls) posts blocks waiting p h = first_call posts blocks waiting p call calls h (shows_all calls) (answer_to p call) refl
 
 -- every list of calls from a new writer
 module _ (lent : List ℕ) (calls : List Call) where
   abbrev acc : List Call
   acc = accepted (fresh_page lent) calls
 
-  pub shows-run : Shows lent (posts_taken acc) (blocks_of acc) (waiting_after [] acc) (run (fresh_page lent) calls)
+  pub shows_run : Shows lent (posts_taken acc) (blocks_of acc) (waiting_after [] acc) (run (fresh_page lent) calls)
   unfolding blocks_of
-  shows-run = shows-all lent calls [] [] [] (fresh_page lent) (shows_fresh lent)
+  shows_run = shows_all lent calls [] [] [] (fresh_page lent) (shows_fresh lent)
 
   -- and once ended
-  blocks-ended : blocks_by (blocks_of acc) (waiting_after [] acc) end ≡ blocks_of (ended_calls lent calls)
+  blocks_ended : blocks_by (blocks_of acc) (waiting_after [] acc) end ≡ blocks_of (ended_calls lent calls)
   unfolding blocks_of
-  blocks-ended =
+  blocks_ended =
       let xs : List Sheet = sheets [] acc in
       let ys : List Sheet = sheets_by (waiting_after [] acc) end in
       let long : length (framed_from 0 xs) ≡ 0 + length xs = omega (arith, framed_long 0 xs) in
       ap (λ (n : ℕ). framed_from 0 xs ++ framed_from n ys) long ∙ sym (framed_append 0 xs ys) ∙ ap (framed_from 0) (sym (sheets_last [] acc end))
 
-  pub shows-run-ended : Shows lent (posts_taken acc) (blocks_of (ended_calls lent calls)) [] (page.ended (run (fresh_page lent) calls))
-  shows-run-ended =
-      subst (λ (bs : List (List ℕ)). Shows lent (posts_taken acc) bs [] (page.ended (run (fresh_page lent) calls))) blocks-ended
-      (shows_end lent (posts_taken acc) (blocks_of acc) (waiting_after [] acc) (run (fresh_page lent) calls) shows-run)
+  pub shows_run_ended : Shows lent (posts_taken acc) (blocks_of (ended_calls lent calls)) [] (page.ended (run (fresh_page lent) calls))
+  shows_run_ended =
+      subst (λ (bs : List (List ℕ)). Shows lent (posts_taken acc) bs [] (page.ended (run (fresh_page lent) calls))) blocks_ended
+      (shows_end lent (posts_taken acc) (blocks_of acc) (waiting_after [] acc) (run (fresh_page lent) calls) shows_run)

@@ -10,7 +10,7 @@ use lib.Seq.{take_at, drop_at, drop-drop, drop-append-add, ext_get_or}
 use Rattle.encoding.specs.Bytes.{all_zero, placed}
 use Rattle.encoding.specs.Each.{all_to, list_to}
 use Rattle.layout.specs.Posts.{part_of}
-use Rattle.encoding.proofs.Each.{length-list, list_at}
+use Rattle.encoding.proofs.Each.{length_list, list_at}
 use Rattle.encoding.proofs.bytes.Placed.{placed_in}
 use Rattle.claims.specs.Written.{joined}
 
@@ -88,6 +88,6 @@ part_is n (l ∷ ls) rest h (suc i) g =
 pub parts_are : (n : ℕ) (ls : List (List ℕ)) (rest : List ℕ) → EachLong n ls → list_to (length ls) (part_of n (joined ls ++ rest)) ≡ ls
 parts_are n ls rest h =
     let f : ℕ → List ℕ = part_of n (joined ls ++ rest) in
-    let same = length-list (length ls) f in
+    let same = length_list (length ls) f in
     ext_get_or [] (list_to (length ls) f) ls same
     (λ i g. let l : i < length ls = omega arith in list_at (length ls) f i [] l ∙ part_is n ls rest h i l)

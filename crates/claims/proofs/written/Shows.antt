@@ -18,8 +18,8 @@ use Rattle.pages.specs.Tally.{outline_after}
 use Rattle.pages.specs.declared.tally.Tally.{Tally}
 use Rattle.claims.specs.Written.{joined, posts_in, posts_in_all, outline_past, Passes, AllPass}
 use Rattle.claims.proofs.written.Accepted.{SetUpTaken}
-use Rattle.claims.proofs.written.Blocks.{outline_over, outline_last, pass_last, posts_last, set-up-holds, set-up-outline, set-up-passes, EachFormed, formed_last, each_long}
-use Rattle.claims.proofs.written.Blocks.{posts_body, blockOfPosts, posts-outline, posts-held, posts-pass}
+use Rattle.claims.proofs.written.Blocks.{outline_over, outline_last, pass_last, posts_last, set_up_holds, set_up_outline, set_up_passes, EachFormed, formed_last, each_long}
+use Rattle.claims.proofs.written.Blocks.{posts_body, block_of_posts, posts_outline, posts_held, posts_pass}
 use Rattle.claims.proofs.written.Places.{placed_at, zeros, zeros_long, zeros-append, drop-zeros, joined_last}
 
 -- ---- the bytes: blocks, and then the bytes that were lent
@@ -151,18 +151,18 @@ told_set_up posts blocks room t kind part count body h number a =
     let n : ℕ = t.blocks in
     let o : Outline = t.outline in
     let x : List ℕ = block_of kind count n body in
-    let passes = set-up-passes kind count n body part a.holds o a.long a.free.number a.rows in
-    told_block posts blocks [] o (outline_after o part count body) x h (set-up-holds kind count n body part a.holds)
-    (set-up-outline kind count n body part a.holds o a.long) (subst (λ (k : ℕ). Passes k o x) number passes)
+    let passes = set_up_passes kind count n body part a.holds o a.long a.free.number a.rows in
+    told_block posts blocks [] o (outline_after o part count body) x h (set_up_holds kind count n body part a.holds)
+    (set_up_outline kind count n body part a.holds o a.long) (subst (λ (k : ℕ). Passes k o x) number passes)
 
 -- the posts that wait become a block
 pub told_finished : (posts blocks waiting : List (List ℕ)) (o : Outline) → Told posts blocks waiting o → 1 ≤ length waiting → length waiting ≤ 10 → may_post o ≡ true
-    → length blocks < 65536 → Told posts (blocks ++ (blockOfPosts (length blocks) waiting ∷ [])) [] o
+    → length blocks < 65536 → Told posts (blocks ++ (block_of_posts (length blocks) waiting ∷ [])) [] o
 told_finished posts blocks waiting o h some few turn small =
     let n : ℕ = length blocks in
     let each = each_long o waiting h.formed in
-    told_block posts blocks waiting o o (blockOfPosts n waiting) h (posts-held n waiting each few) (posts-outline n waiting o)
-    (posts-pass n waiting each few o turn some small h.formed)
+    told_block posts blocks waiting o o (block_of_posts n waiting) h (posts_held n waiting each few) (posts_outline n waiting o)
+    (posts_pass n waiting each few o turn some small h.formed)
 
 -- ---- the relation
 

@@ -11,7 +11,7 @@ use lib.ListN.{length, length-append}
 use Rattle.layout.specs.Frame.{body_of, block_of}
 use Rattle.layout.specs.declared.holds.SetupPart.{SetupPart}
 use Rattle.layout.specs.declared.outline.Outline.{Outline}
-use Rattle.layout.proofs.frame.Made.{made-long}
+use Rattle.layout.proofs.frame.Made.{made_long}
 use Rattle.pages.specs.Calls.{set_up}
 use Rattle.encoding.specs.Bytes.{placed}
 use Rattle.pages.specs.Page as page
@@ -21,7 +21,7 @@ use Rattle.pages.specs.Tally.{tally_of}
 use Rattle.pages.specs.declared.tally.Tally.{Tally}
 use Rattle.claims.specs.Written.{joined}
 use Rattle.claims.proofs.written.Accepted.{SetUpTaken, PostTaken}
-use Rattle.claims.proofs.written.Blocks.{each_long, posts_body, blockOfPosts, body-long}
+use Rattle.claims.proofs.written.Blocks.{each_long, posts_body, block_of_posts, body_long}
 use Rattle.claims.proofs.written.Places.{joined_long}
 use Rattle.claims.proofs.written.Shows.{Filled, same_length, filled_next, drafted, drafted_none, drafted_next, drafted_body}
 use Rattle.claims.proofs.written.Shows.{Told, told_post, told_set_up, told_finished, Begins, Shows}
@@ -29,16 +29,16 @@ use Rattle.claims.proofs.written.Shows.{Told, told_post, told_set_up, told_finis
 -- ---- a set-up block
 
 module _ (lent : List ℕ) (posts blocks : List (List ℕ)) (p : Page) (kind : ℕ) (part : SetupPart) (count : ℕ) (body : List ℕ) where
-  pub shows-set-up : Shows lent posts blocks [] p → SetUpTaken (length p.bytes) p.draft.tally kind part count body
+  pub shows_set_up : Shows lent posts blocks [] p → SetUpTaken (length p.bytes) p.draft.tally kind part count body
       → Shows lent posts (blocks ++ (block_of kind count p.draft.tally.blocks body ∷ [])) [] (with_part p kind part count body)
   unfolding tally.set_up
-  shows-set-up h a =
+  shows_set_up h a =
       let t : Tally = p.draft.tally in
       let x : List ℕ = block_of kind count t.blocks body in
       let same = same_length lent blocks p.bytes p.filled h.filled in
       let room : length blocks * 512 + 512 ≤ length lent = omega (arith, a.free.fits, h.number) in
       record {
-        filled = filled_next lent blocks p.bytes p.filled h.filled x (made-long kind count t.blocks body a.long) room;
+        filled = filled_next lent blocks p.bytes p.filled h.filled x (made_long kind count t.blocks body a.long) room;
         number = omega (arith, h.number, length-append blocks (x ∷ []));
         count = h.count;
         few = h.few;
@@ -52,19 +52,19 @@ module _ (lent : List ℕ) (posts blocks : List (List ℕ)) (p : Page) (kind : �
 module _ (lent : List ℕ) (posts blocks waiting : List (List ℕ)) (p : Page) (number : p.draft.tally.blocks ≡ length blocks)
     (filled : Filled lent blocks p.bytes p.filled) (b : Begins lent blocks p.draft.tally.outline)
     (told : Told posts blocks waiting p.draft.tally.outline) (some : 1 ≤ length waiting) (few : length waiting ≤ 10) where
-  pub shows-finished : (count : ℕ) (block : List ℕ) → count ≡ length waiting → block ≡ drafted waiting
-      → Shows lent posts (blocks ++ (blockOfPosts (length blocks) waiting ∷ [])) [] (finished p count block)
-  shows-finished count block is e =
+  pub shows_finished : (count : ℕ) (block : List ℕ) → count ≡ length waiting → block ≡ drafted waiting
+      → Shows lent posts (blocks ++ (block_of_posts (length blocks) waiting ∷ [])) [] (finished p count block)
+  shows_finished count block is e =
       let o : Outline = p.draft.tally.outline in
       let n : ℕ = length blocks in
-      let x : List ℕ = blockOfPosts n waiting in
+      let x : List ℕ = block_of_posts n waiting in
       let y : List ℕ = posts_block count p.draft.tally.blocks block in
       let each = each_long o waiting told.formed in
       let body : body_of block ≡ posts_body waiting = ap body_of e ∙ drafted_body waiting (omega (arith, joined_long 48 waiting each)) in
       let made : x ≡ y =
       ap (λ (k : ℕ). block_of 3 k n (posts_body waiting)) (sym is) ∙ ap (λ (k : ℕ). block_of 3 count k (posts_body waiting)) (sym number)
       ∙ ap (λ (s : List ℕ). block_of 3 count p.draft.tally.blocks s) (sym body) in
-      let next = filled_next lent blocks p.bytes p.filled filled x (made-long 3 (length waiting) n (posts_body waiting) (body-long n waiting each few)) b.room in
+      let next = filled_next lent blocks p.bytes p.filled filled x (made_long 3 (length waiting) n (posts_body waiting) (body_long n waiting each few)) b.room in
       record {
         filled = subst (λ (z : List ℕ). Filled lent (blocks ++ (x ∷ [])) (placed p.bytes p.filled z) (p.filled + 512)) made next;
         number = omega (arith, number, length-append blocks (x ∷ []));
@@ -107,24 +107,24 @@ module _ (lent : List ℕ) (posts blocks waiting : List (List ℕ)) (p : Page) (
   told_more : Told (posts ++ (s ∷ [])) blocks more o
   told_more = told_post posts blocks waiting o s h.told a.formed
 
-  more-long : length more ≡ length waiting + 1
-  more-long = length-append waiting (s ∷ [])
+  more_long : length more ≡ length waiting + 1
+  more_long = length-append waiting (s ∷ [])
 
   -- a tenth post writes its block
-  pub shows-tenth : length waiting ≡ 9 → Shows lent (posts ++ (s ∷ [])) (blocks ++ (blockOfPosts (length blocks) more ∷ [])) [] (posted p s)
+  pub shows_tenth : length waiting ≡ 9 → Shows lent (posts ++ (s ∷ [])) (blocks ++ (block_of_posts (length blocks) more ∷ [])) [] (posted p s)
   unfolding posted
-  shows-tenth e =
+  shows_tenth e =
       let full : eqb p.draft.tally.waiting 9 ≡ true = eq-eqb p.draft.tally.waiting 9 (h.count ∙ e) in
       let is : finished p 10 (with_post p.draft s) ≡ posted p s =
       ap (λ (t : Bool). cond t (finished p 10 (with_post p.draft s)) (page_of p.bytes p.filled (draft_of (tally.posted p.draft.tally) (with_post p.draft s)))) (sym full) in
-      subst (λ (q : Page). Shows lent (posts ++ (s ∷ [])) (blocks ++ (blockOfPosts (length blocks) more ∷ [])) [] q) is
-      (shows-finished lent (posts ++ (s ∷ [])) blocks more p h.number h.filled begins told_more (omega (arith, more-long)) (omega (arith, more-long))
-      10 (with_post p.draft s) (omega (arith, more-long)) behind)
+      subst (λ (q : Page). Shows lent (posts ++ (s ∷ [])) (blocks ++ (block_of_posts (length blocks) more ∷ [])) [] q) is
+      (shows_finished lent (posts ++ (s ∷ [])) blocks more p h.number h.filled begins told_more (omega (arith, more_long)) (omega (arith, more_long))
+      10 (with_post p.draft s) (omega (arith, more_long)) behind)
 
   -- another waits
-  pub shows-waiting : (length waiting ≡ 9 → ⊥) → Shows lent (posts ++ (s ∷ [])) blocks more (posted p s)
+  pub shows_waiting : (length waiting ≡ 9 → ⊥) → Shows lent (posts ++ (s ∷ [])) blocks more (posted p s)
   unfolding posted tally.posted
-  shows-waiting d =
+  shows_waiting d =
       let t : Tally = p.draft.tally in
       let short : false ≡ eqb t.waiting 9 = sym (ne_eqb t.waiting 9 (λ e. d (sym h.count ∙ e))) in
       let v : Tally = tally_of t.outline (t.waiting + 1) t.blocks in
@@ -135,8 +135,8 @@ module _ (lent : List ℕ) (posts blocks waiting : List (List ℕ)) (p : Page) (
       record {
         filled = h.filled;
         number = h.number;
-        count = omega (arith, h.count, more-long);
-        few = omega (arith, h.few, more-long);
+        count = omega (arith, h.count, more_long);
+        few = omega (arith, h.few, more_long);
         block = behind;
         begun = λ l. begins;
         told = told_more;
@@ -158,9 +158,9 @@ shows_same lent posts blocks p h =
 
 -- and else the posts that wait become a block
 pub shows_ended : (lent : List ℕ) (posts blocks waiting : List (List ℕ)) (p : Page) → Shows lent posts blocks waiting p → 1 ≤ length waiting
-    → Shows lent posts (blocks ++ (blockOfPosts (length blocks) waiting ∷ [])) [] (page.ended p)
+    → Shows lent posts (blocks ++ (block_of_posts (length blocks) waiting ∷ [])) [] (page.ended p)
 unfolding page.ended
 shows_ended lent posts blocks waiting p h one =
     let some : false ≡ eqb p.draft.tally.waiting 0 = sym (ne_eqb p.draft.tally.waiting 0 (λ e. omega (arith, h.count))) in
-    subst (λ (q : Page). Shows lent posts (blocks ++ (blockOfPosts (length blocks) waiting ∷ [])) [] q) (ap (λ (t : Bool). cond t p (last_page p)) some)
-    (shows-finished lent posts blocks waiting p h.number h.filled (h.begun one) h.told one (omega (arith, h.few)) p.draft.tally.waiting p.draft.block h.count h.block)
+    subst (λ (q : Page). Shows lent posts (blocks ++ (block_of_posts (length blocks) waiting ∷ [])) [] q) (ap (λ (t : Bool). cond t p (last_page p)) some)
+    (shows_finished lent posts blocks waiting p h.number h.filled (h.begun one) h.told one (omega (arith, h.few)) p.draft.tally.waiting p.draft.block h.count h.block)

@@ -62,8 +62,8 @@ module _ (from to end start : ℕ) (s : List ℕ) (e : end ≡ min to (length s)
   long : length (take (end - start) (drop start s)) ≡ end - start
   long = length-take-le (end - start) (drop start s) (simp length-drop (omega arith))
 
-  pub cut-is : take (end - start) (drop start s) ≡ part from to s
-  cut-is =
+  pub cut_is : take (end - start) (drop start s) ≡ part from to s
+  cut_is =
       ext_get_or 0 (take (end - start) (drop start s)) (part from to s)
       (long ∙ sym (simp (length-take, length-drop) (cut_length from to (length s) end start e f)))
       (λ i h.

@@ -42,8 +42,8 @@ unfolding of_bits
 by_pattern b = by_field (leb (2 ^ 63) b) (b % 2 ^ 63 / 2 ^ 52) (b % 2 ^ 52)
 
 module _ (b : ℕ) where
-  pub finite-below : b % 0x8000_0000_0000_0000 < 0x7ff0_0000_0000_0000 → finite (value_of b) ≡ true
-  finite-below h = by_pattern b ∙ ap not (ne_eqb (b % 2 ^ 63 / 2 ^ 52) 2047 (λ (e : b % 2 ^ 63 / 2 ^ 52 ≡ 2047). omega arith))
+  pub finite_below : b % 0x8000_0000_0000_0000 < 0x7ff0_0000_0000_0000 → finite (value_of b) ≡ true
+  finite_below h = by_pattern b ∙ ap not (ne_eqb (b % 2 ^ 63 / 2 ^ 52) 2047 (λ (e : b % 2 ^ 63 / 2 ^ 52 ≡ 2047). omega arith))
 
   pub not_finite : b < 2 ^ 64 → 0x7ff0_0000_0000_0000 ≤ b % 0x8000_0000_0000_0000 → finite (value_of b) ≡ false
   not_finite f h = by_pattern b ∙ ap not (eq-eqb (b % 2 ^ 63 / 2 ^ 52) 2047 (omega arith))

@@ -133,8 +133,8 @@ not_below m e (fin true n d) a c p A =
 -- ---- a pattern in a range that starts at 0 or above
 
 module _ (b h : ℕ) (end : h < 0x7ff0_0000_0000_0000) where
-  pub at-most-end : b % 0x8000_0000_0000_0000 ≤ h → le (value_of b) (value_of h) ≡ true
-  at-most-end l = go (leb (2 ^ 63) b) (value b (omega arith))
+  pub at_most_end : b % 0x8000_0000_0000_0000 ≤ h → le (value_of b) (value_of h) ≡ true
+  at_most_end l = go (leb (2 ^ 63) b) (value b (omega arith))
     where
       go : (s : Bool) → HasValue (value_of b) s (units (b % 2 ^ 63)) (2 ^ 1074) → le (value_of b) (value_of h) ≡ true
       go true v = below_any (value_of b) (value_of h) _ _ _ _ v (end_value h end)
@@ -157,25 +157,25 @@ module _ (b h : ℕ) (end : h < 0x7ff0_0000_0000_0000) where
       by_size false k = rw (not_finite b f (ltb-false (b % 2 ^ 63) 0x7ff0_0000_0000_0000 k))
 
 module _ (range : Range) (u : Upward range) where
-  a-number : T (not (is_nan (value_of u.most)))
-  a-number = let l = u.under in subst (λ (t : Bool). T (not t)) (nan_bits_is binary64 u.most) (no_nan u.most (omega (arith, l)))
+  a_number : T (not (is_nan (value_of u.most)))
+  a_number = let l = u.under in subst (λ (t : Bool). T (not t)) (nan_bits_is binary64 u.most) (no_nan u.most (omega (arith, l)))
 
-  pub end-is-number : T (not (is_nan range.high))
-  end-is-number = subst (λ (x : Float). T (not (is_nan x))) (sym u.end) a-number
+  pub end_is_number : T (not (is_nan range.high))
+  end_is_number = subst (λ (x : Float). T (not (is_nan x))) (sym u.end) a_number
 
-  end-pattern : to_bits binary64 range.high ≡ u.most
-  end-pattern = let l = u.under in ap (to_bits binary64) u.end ∙ to_bits-of_bits binary64 u.most (omega (arith, l)) a-number
+  end_pattern : to_bits binary64 range.high ≡ u.most
+  end_pattern = let l = u.under in ap (to_bits binary64) u.end ∙ to_bits-of_bits binary64 u.most (omega (arith, l)) a_number
 
   module _ (b : ℕ) where
     pub too_large : to_bits binary64 range.high < b % 0x8000_0000_0000_0000 → b < 2 ^ 64 → in_range range (value_of b) ≡ false
-    too_large h f = rw (u.start, u.end) (past_end b u.most u.under u.digits u.exponent f (rw end-pattern at h))
+    too_large h f = rw (u.start, u.end) (past_end b u.most u.under u.digits u.exponent f (rw end_pattern at h))
 
     module _ (h : b % 0x8000_0000_0000_0000 ≤ to_bits binary64 range.high) where
       no_more : b % 0x8000_0000_0000_0000 ≤ u.most
-      no_more = rw end-pattern at h
+      no_more = rw end_pattern at h
 
-      pub has-size : b % 0x8000_0000_0000_0000 < 0x7ff0_0000_0000_0000
-      has-size = let l = u.under in let m = no_more in omega (arith, l, m)
+      pub has_size : b % 0x8000_0000_0000_0000 < 0x7ff0_0000_0000_0000
+      has_size = let l = u.under in let m = no_more in omega (arith, l, m)
 
-      pub no-larger : le (value_of b) range.high ≡ true
-      no-larger = rw u.end (at-most-end b u.most u.under no_more)
+      pub no_larger : le (value_of b) range.high ≡ true
+      no_larger = rw u.end (at_most_end b u.most u.under no_more)

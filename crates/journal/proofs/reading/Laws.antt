@@ -90,19 +90,19 @@ declined_text (refused place n) x d e v =
     ap₂ refused_text (ap (λ (y : BlocksRead). y.place) e) (one_number x.verdict d (record { number = n }) v (ap (λ (y : BlocksRead). y.verdict) e))
 
 module _ (l m : List ℕ) (w : Written) where
-  tries-as : (a b : List ℕ) → a ≡ b → Tries 1336 l 0 a m w → Tries 1336 l 0 b m w
-  tries-as a b e t = subst (λ (x : List ℕ). Tries 1336 l 0 x m w) e t
+  tries_as : (a b : List ℕ) → a ≡ b → Tries 1336 l 0 a m w → Tries 1336 l 0 b m w
+  tries_as a b e t = subst (λ (x : List ℕ). Tries 1336 l 0 x m w) e t
 
   module _ (r : Reading) where
-    pub prints-return : r.stopped ≡ No → Tries 1336 l 0 (return_text r.book) m w → Tries 1336 l 0 (text_of r) m w
-    prints-return e t = tries-as _ _ (sym (ap (λ (x : Stopped). text_while x r.book) e)) t
+    pub prints_return : r.stopped ≡ No → Tries 1336 l 0 (return_text r.book) m w → Tries 1336 l 0 (text_of r) m w
+    prints_return e t = tries_as _ _ (sym (ap (λ (x : Stopped). text_while x r.book) e)) t
 
-    pub prints-refused : (d : Decline) (place : ℕ) → r.stopped ≡ By d → place ≡ r.book.blocks → Tries 1336 l 0 (refused_text place d.number) m w → Tries 1336 l 0 (text_of r) m w
-    prints-refused d place e k t = tries-as _ _ (ap (λ (x : ℕ). refused_text x d.number) k ∙ sym (ap (λ (x : Stopped). text_while x r.book) e)) t
+    pub prints_refused : (d : Decline) (place : ℕ) → r.stopped ≡ By d → place ≡ r.book.blocks → Tries 1336 l 0 (refused_text place d.number) m w → Tries 1336 l 0 (text_of r) m w
+    prints_refused d place e k t = tries_as _ _ (ap (λ (x : ℕ). refused_text x d.number) k ∙ sym (ap (λ (x : Stopped). text_while x r.book) e)) t
 
   module _ (s : List ℕ) (x : BlocksRead) (e : x ≡ ended (read_all fresh_book 0 (parts_in s))) where
-    pub journal-return : x.verdict ≡ Accepted → Tries 1336 l 0 (return_text x.book) m w → Tries 1336 l 0 (printed_of s) m w
-    journal-return v t = tries-as _ _ (accepted_text (read_all fresh_book 0 (parts_in s)) x e v) t
+    pub journal_return : x.verdict ≡ Accepted → Tries 1336 l 0 (return_text x.book) m w → Tries 1336 l 0 (printed_of s) m w
+    journal_return v t = tries_as _ _ (accepted_text (read_all fresh_book 0 (parts_in s)) x e v) t
 
     pub journal_refused : (d : Decline) → x.verdict ≡ Declined d → Tries 1336 l 0 (refused_text x.place d.number) m w → Tries 1336 l 0 (printed_of s) m w
-    journal_refused d v t = tries-as _ _ (declined_text (read_all fresh_book 0 (parts_in s)) x d e v) t
+    journal_refused d v t = tries_as _ _ (declined_text (read_all fresh_book 0 (parts_in s)) x d e v) t

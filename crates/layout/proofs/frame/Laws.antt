@@ -37,18 +37,18 @@ number_small number s fits f = omega (arith, le_small 2 (drop 6 s) (λ i. rw get
 -- ---- what a block holds
 
 module _ (number : ℕ) (s : List ℕ) where
-  pub not-held : (n : ℕ) → checked (frame_checks number s) s ≡ declined n → held_at number s ≡ declined n
+  pub not_held : (n : ℕ) → checked (frame_checks number s) s ≡ declined n → held_at number s ≡ declined n
   unfolding held_at
-  not-held n e = rw e
+  not_held n e = rw e
 
   pub is_held : checked (frame_checks number s) s ≡ taken s → held_at number s ≡ holds_of (block_kind s)
   unfolding held_at
   is_held e = rw e
 
   -- a frame that is read passes, and its kind tells what the block holds
-  pub held-framed : (h : Holds) → held_at number s ≡ taken h → Framed number s × (holds_of (block_kind s) ≡ taken h)
+  pub held_framed : (h : Holds) → held_at number s ≡ taken h → Framed number s × (holds_of (block_kind s) ≡ taken h)
   unfolding held_at
-  held-framed h e =
+  held_framed h e =
       let a = was_taken (checked (frame_checks number s) s) (λ s. holds_of (block_kind s)) h e in
       let f = framed number s s a.0 a.1 in
       (f.0, ap (λ (x : List ℕ). holds_of (block_kind x)) (sym f.1) ∙ a.2)

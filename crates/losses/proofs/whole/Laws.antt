@@ -132,8 +132,8 @@ module _ (x : Float) (F : T (fits binary64 x)) (a : le nought x ≡ true) (c : l
   digits_lt : digits < 2 ^ 53
   digits_lt = rw (and_mask b 52, or_shifted_r 1 52 (b % 2 ^ 52) (mod-lt b (pow_pos 52))) (omega (arith, mod-lt b (pow_pos 52)))
 
-  shifted-out : exponent ≤ 1022 → digits / 2 ^ (1075 - exponent) ≡ 0
-  shifted-out h = div-eq_of_lt (lt_of_lt_of_le digits_lt (pow_mono (go exponent h)))
+  shifted_out : exponent ≤ 1022 → digits / 2 ^ (1075 - exponent) ≡ 0
+  shifted_out h = div-eq_of_lt (lt_of_lt_of_le digits_lt (pow_mono (go exponent h)))
     where
       go : (e : ℕ) → e ≤ 1022 → 53 ≤ 1075 - e
       go e h = omega arith
@@ -145,7 +145,7 @@ module _ (x : Float) (F : T (fits binary64 x)) (a : le nought x ≡ true) (c : l
       go e h = omega arith
 
   pub cut : exponent ≤ 1075 → digits / 2 ^ (1075 - exponent) ≡ whole_part x
-  cut k = elim sides [ inl z ↦ rw z.1 (cut_down x F z.0 under (rw z.1 at k)) | inr z ↦ shifted-out z.1 ∙ below_one 64 x z.0 ]
+  cut k = elim sides [ inl z ↦ rw z.1 (cut_down x F z.0 under (rw z.1 at k)) | inr z ↦ shifted_out z.1 ∙ below_one 64 x z.0 ]
 
   pub raised : 1075 < exponent → digits * 2 ^ (exponent - 1075) % 2 ^ 64 ≡ whole_part x
   raised k = elim sides [ inl z ↦ rw z.1 (cut_up x F z.0 under (rw z.1 at k)) | inr z ↦ absurd (go exponent z.1 k) ]

@@ -16,7 +16,7 @@ use Rattle.layout.specs.declared.holds.SetupPart.{SetupPart}
 use Rattle.layout.specs.declared.verdict.Verdict.TheVariants.{Accepted, Declined}
 use Rattle.kinds.specs.Kind.{Row}
 use Rattle.encoding.proofs.bytes.Placed.{placed_in}
-use Rattle.pages.proofs.tally.Laws.{tally_fresh, early, posted-finishes, posted-joins, set-up-free, post-begun, end-begun}
+use Rattle.pages.proofs.tally.Laws.{tally_fresh, early, posted_finishes, posted_joins, set_up_free, post_begun, end_begun}
 use Rattle.encoding.specs.Bytes.{placed}
 use Rattle.pages.specs.Page.{Page, page_of, draft_of, fresh_draft, fresh_page, with_post, with_part, finished, posted, post_on, set_up_on, ended, Sound, Answers}
 use Rattle.pages.specs.Tally as tally
@@ -61,9 +61,9 @@ module _ (p : Page) (sound : Sound p) (kind count : ℕ) (body : List ℕ) where
   room = length p.bytes
 
   -- a kind that is no part of the set-up is declined on a page as on its tally, and so is a part that its checks decline
-  pub set-up-refused : (d : Decline) (q : Tally) → Counts room t (tally.set_up_on room t kind count body) (Declined d) q → Answers p (set_up_on p kind count body) (Declined d) p
+  pub set_up_refused : (d : Decline) (q : Tally) → Counts room t (tally.set_up_on room t kind count body) (Declined d) q → Answers p (set_up_on p kind count body) (Declined d) p
   unfolding set_up_on tally.set_up_on tally.part_on
-  set-up-refused d q c = refused p (set_up_on p kind count body) d sound (go (part_of_kind kind) c.verdict)
+  set_up_refused d q c = refused p (set_up_on p kind count body) d sound (go (part_of_kind kind) c.verdict)
     where
       go : (a : Answer SetupPart) → Declined d ≡ verdict_of (on_taken a (λ part. tally.part_on room t part count body))
           → on_taken a (λ part. checked (set_up_checks room t part count body) (with_part p kind part count body)) ≡ declined d.number
@@ -72,9 +72,9 @@ module _ (p : Page) (sound : Sound p) (kind count : ℕ) (body : List ℕ) where
 
   module _ (q : Tally) (c : Counts room t (tally.set_up_on room t kind count body) Accepted q) where
     -- a kind that is accepted is a part of the set-up
-    set-up-part : (part : SetupPart) × (part_of_kind kind ≡ taken part) × (Accepted ≡ verdict_of (tally.part_on room t part count body))
+    set_up_part : (part : SetupPart) × (part_of_kind kind ≡ taken part) × (Accepted ≡ verdict_of (tally.part_on room t part count body))
     unfolding tally.set_up_on
-    set-up-part = go (part_of_kind kind) c.verdict
+    set_up_part = go (part_of_kind kind) c.verdict
       where
         go : (a : Answer SetupPart) → Accepted ≡ verdict_of (on_taken a (λ part. tally.part_on room t part count body))
             → (part : SetupPart) × (a ≡ taken part) × (Accepted ≡ verdict_of (tally.part_on room t part count body))
@@ -82,62 +82,62 @@ module _ (p : Page) (sound : Sound p) (kind count : ℕ) (body : List ℕ) where
         go (declined n) e = let z : ◌≡◌ {A = ℕ} 0 1 = cc in absurd (omega arith)
 
     abbrev part : SetupPart
-    part = set-up-part.0
+    part = set_up_part.0
 
     abbrev rows : List Check
     rows = set_up_checks room t part count body
 
-    set-up-passes : AllPass rows
+    set_up_passes : AllPass rows
     unfolding tally.part_on
-    set-up-passes = (passed rows (tt {0}) (tt {0}) (accepts (tally.set_up t part count body) (tt {0}) rows set-up-part.2)).0
+    set_up_passes = (passed rows (tt {0}) (tt {0}) (accepts (tally.set_up t part count body) (tt {0}) rows set_up_part.2)).0
 
-    set-up-long : length body ≡ 500
-    set-up-long = (early t.outline part count body (pass_both (part_checks t.outline part count body) _ set-up-passes).0).1
+    set_up_long : length body ≡ 500
+    set_up_long = (early t.outline part count body (pass_both (part_checks t.outline part count body) _ set_up_passes).0).1
 
-    pub set-up-room : (t.blocks < 65536) × (p.filled + 512 ≤ room)
-    set-up-room =
-        let free = set-up-free room t sound.counted part count body set-up-passes in
+    pub set_up_room : (t.blocks < 65536) × (p.filled + 512 ≤ room)
+    set_up_room =
+        let free = set_up_free room t sound.counted part count body set_up_passes in
         (free.number, omega (arith, free.fits, sound.filled_is))
 
-    set-up-is : q ≡ tally.set_up t part count body
+    set_up_is : q ≡ tally.set_up t part count body
     unfolding tally.set_up_on tally.part_on
-    set-up-is =
+    set_up_is =
         c.after
-        ∙ ap (λ (a : Answer SetupPart). value_or t (on_taken a (λ x. tally.part_on room t x count body))) set-up-part.1
-        ∙ ap (value_or t) (pass_taken rows (tally.set_up t part count body) set-up-passes)
+        ∙ ap (λ (a : Answer SetupPart). value_or t (on_taken a (λ x. tally.part_on room t x count body))) set_up_part.1
+        ∙ ap (value_or t) (pass_taken rows (tally.set_up t part count body) set_up_passes)
 
     -- the page after it
-    page-is : set_up_on p kind count body ≡ taken (with_part p kind part count body)
+    page_is : set_up_on p kind count body ≡ taken (with_part p kind part count body)
     unfolding set_up_on
-    page-is =
-        ap (λ (a : Answer SetupPart). on_taken a (λ x. checked (set_up_checks room t x count body) (with_part p kind x count body))) set-up-part.1
-        ∙ pass_taken rows (with_part p kind part count body) set-up-passes
+    page_is =
+        ap (λ (a : Answer SetupPart). on_taken a (λ x. checked (set_up_checks room t x count body) (with_part p kind x count body))) set_up_part.1
+        ∙ pass_taken rows (with_part p kind part count body) set_up_passes
 
-    pub set-up-answers : (made bytes : List ℕ) (end : ℕ) → made ≡ placed (replicate 512 0) 8 body → end ≡ p.filled + 512
+    pub set_up_answers : (made bytes : List ℕ) (end : ℕ) → made ≡ placed (replicate 512 0) 8 body → end ≡ p.filled + 512
         → bytes ≡ placed p.bytes p.filled (block_of kind count t.blocks (body_of made)) → length bytes ≡ length p.bytes
         → Answers p (set_up_on p kind count body) Accepted (page_of bytes end (draft_of q p.draft.block))
     unfolding tally.set_up
-    set-up-answers made bytes end w e b size =
+    set_up_answers made bytes end w e b size =
         let block = block_of kind count t.blocks body in
-        let same : body_of made ≡ body = ap body_of w ∙ body_in body set-up-long in
+        let same : body_of made ≡ body = ap body_of w ∙ body_in body set_up_long in
         let is : bytes ≡ placed p.bytes p.filled block = b ∙ ap (λ (x : List ℕ). placed p.bytes p.filled (block_of kind count t.blocks x)) same in
-        let blocks : q.blocks ≡ t.blocks + 1 = ap (λ (x : Tally). x.blocks) set-up-is in
+        let blocks : q.blocks ≡ t.blocks + 1 = ap (λ (x : Tally). x.blocks) set_up_is in
         subst (λ (n : ℕ). Answers p (set_up_on p kind count body) Accepted (page_of bytes n (draft_of q p.draft.block))) (sym e)
         (answered p (set_up_on p kind count body) (page_of bytes (p.filled + 512) (draft_of q p.draft.block))
-        (page-is ∙ ap₂ (λ (x : List ℕ) (y : Tally). taken (page_of x (p.filled + 512) (draft_of y p.draft.block))) (sym is) (sym set-up-is))
+        (page_is ∙ ap₂ (λ (x : List ℕ) (y : Tally). taken (page_of x (p.filled + 512) (draft_of y p.draft.block))) (sym is) (sym set_up_is))
         size (block_sound p bytes q p.draft.block sound size c.sound blocks))
 
 -- ---- posts and ends
 
 module _ {A B : Type 0} (x : A) (y : B) where
-  other-declined : (a : Answer Row) (d : Decline) → Declined d ≡ verdict_of (on_taken a (λ _. taken x)) → on_taken a (λ _. taken y) ≡ declined d.number
-  other-declined (taken k) d e = let z : ◌≡◌ {A = ℕ} 0 1 = cc in absurd (omega arith)
-  other-declined (declined n) d e = cc
+  other_declined : (a : Answer Row) (d : Decline) → Declined d ≡ verdict_of (on_taken a (λ _. taken x)) → on_taken a (λ _. taken y) ≡ declined d.number
+  other_declined (taken k) d e = let z : ◌≡◌ {A = ℕ} 0 1 = cc in absurd (omega arith)
+  other_declined (declined n) d e = cc
 
-  other-taken : (a : Answer Row) → Accepted ≡ verdict_of (on_taken a (λ _. taken x))
+  other_taken : (a : Answer Row) → Accepted ≡ verdict_of (on_taken a (λ _. taken x))
       → (on_taken a (λ _. taken y) ≡ taken y) × (Accepted ≡ verdict_of a) × (on_taken a (λ _. taken x) ≡ taken x)
-  other-taken (taken k) e = (refl, refl, refl)
-  other-taken (declined n) e = let z : ◌≡◌ {A = ℕ} 0 1 = cc in absurd (omega arith)
+  other_taken (taken k) e = (refl, refl, refl)
+  other_taken (declined n) e = let z : ◌≡◌ {A = ℕ} 0 1 = cc in absurd (omega arith)
 
 -- the posts of a block are written
 pub finished_is : (p : Page) (count : ℕ) (block bytes : List ℕ) (q : Tally) (a : Answer Page) → Sound p → a ≡ taken (finished p count block)
@@ -150,13 +150,13 @@ finished_is p count block bytes q a sound e t h b size =
     size (block_sound p bytes q (replicate 512 0) sound size h (ap (λ (x : Tally). x.blocks) t))
 
 module _ (p : Page) (s : List ℕ) where
-  tenth-finishes : p.draft.tally.waiting ≡ 9 → posted p s ≡ finished p 10 (with_post p.draft s)
+  tenth_finishes : p.draft.tally.waiting ≡ 9 → posted p s ≡ finished p 10 (with_post p.draft s)
   unfolding posted
-  tenth-finishes e = rw (eq-eqb _ _ e)
+  tenth_finishes e = rw (eq-eqb _ _ e)
 
-  other-joins : (p.draft.tally.waiting ≡ 9 → ⊥) → posted p s ≡ page_of p.bytes p.filled (draft_of (tally.posted p.draft.tally) (with_post p.draft s))
+  other_joins : (p.draft.tally.waiting ≡ 9 → ⊥) → posted p s ≡ page_of p.bytes p.filled (draft_of (tally.posted p.draft.tally) (with_post p.draft s))
   unfolding posted
-  other-joins n = rw (ne_eqb _ _ n)
+  other_joins n = rw (ne_eqb _ _ n)
 
 module _ (p : Page) (sound : Sound p) (s : List ℕ) where
   abbrev u : Tally
@@ -165,55 +165,55 @@ module _ (p : Page) (sound : Sound p) (s : List ℕ) where
   abbrev told : Answer Row
   told = post_answer (length p.bytes) u s
 
-  pub post-refused : (d : Decline) (q : Tally) → Counts (length p.bytes) u (tally.post_on (length p.bytes) u s) (Declined d) q → Answers p (post_on p s) (Declined d) p
+  pub post_refused : (d : Decline) (q : Tally) → Counts (length p.bytes) u (tally.post_on (length p.bytes) u s) (Declined d) q → Answers p (post_on p s) (Declined d) p
   unfolding post_on tally.post_on
-  post-refused d q c = refused p (post_on p s) d sound (other-declined (tally.posted u) (posted p s) told d c.verdict)
+  post_refused d q c = refused p (post_on p s) d sound (other_declined (tally.posted u) (posted p s) told d c.verdict)
 
   module _ (q : Tally) (c : Counts (length p.bytes) u (tally.post_on (length p.bytes) u s) Accepted q) where
     post_is : q ≡ tally.posted u
     unfolding tally.post_on
-    post_is = c.after ∙ ap (value_or u) (other-taken (tally.posted u) (posted p s) told c.verdict).2
+    post_is = c.after ∙ ap (value_or u) (other_taken (tally.posted u) (posted p s) told c.verdict).2
 
     post_taken : post_on p s ≡ taken (posted p s)
     unfolding post_on tally.post_on
-    post_taken = (other-taken (tally.posted u) (posted p s) told c.verdict).0
+    post_taken = (other_taken (tally.posted u) (posted p s) told c.verdict).0
 
-    pub post-room : (u.blocks < 65536) × (p.filled + 512 ≤ length p.bytes)
+    pub post_room : (u.blocks < 65536) × (p.filled + 512 ≤ length p.bytes)
     unfolding tally.post_on
-    post-room =
-        let b = post-begun (length p.bytes) u sound.counted s (other-taken (tally.posted u) (posted p s) told c.verdict).1 in
+    post_room =
+        let b = post_begun (length p.bytes) u sound.counted s (other_taken (tally.posted u) (posted p s) told c.verdict).1 in
         (b.number, omega (arith, b.room_left, sound.filled_is))
 
     -- the tenth
-    pub tenth-answers : (bytes block : List ℕ) → u.waiting ≡ 9 → block ≡ with_post p.draft s
+    pub tenth_answers : (bytes block : List ℕ) → u.waiting ≡ 9 → block ≡ with_post p.draft s
         → bytes ≡ placed p.bytes p.filled (block_of 3 10 u.blocks (body_of block)) → length bytes ≡ length p.bytes
         → Answers p (post_on p s) Accepted (page_of bytes (p.filled + 512) (fresh_draft q))
-    tenth-answers bytes block nine w b size =
-        finished_is p 10 block bytes q (post_on p s) sound (post_taken ∙ ap taken (tenth-finishes p s nine ∙ ap (finished p 10) (sym w)))
-        (post_is ∙ sym (posted-finishes u nine)) c.sound b size
+    tenth_answers bytes block nine w b size =
+        finished_is p 10 block bytes q (post_on p s) sound (post_taken ∙ ap taken (tenth_finishes p s nine ∙ ap (finished p 10) (sym w)))
+        (post_is ∙ sym (posted_finishes u nine)) c.sound b size
 
     -- another
-    pub other-answers : (block : List ℕ) → (u.waiting ≡ 9 → ⊥) → block ≡ with_post p.draft s → Answers p (post_on p s) Accepted (page_of p.bytes p.filled (draft_of q block))
-    other-answers block n w =
+    pub other_answers : (block : List ℕ) → (u.waiting ≡ 9 → ⊥) → block ≡ with_post p.draft s → Answers p (post_on p s) Accepted (page_of p.bytes p.filled (draft_of q block))
+    other_answers block n w =
         answered p (post_on p s) (page_of p.bytes p.filled (draft_of q block))
-        (post_taken ∙ ap taken (other-joins p s n ∙ ap₂ (λ (x : Tally) (y : List ℕ). page_of p.bytes p.filled (draft_of x y)) (sym post_is) (sym w)))
-        refl (record { counted = c.sound; filled_is = sound.filled_is ∙ ap (λ (k : ℕ). k * 512) (sym (ap (λ (x : Tally). x.blocks) (post_is ∙ sym (posted-joins u n)))) })
+        (post_taken ∙ ap taken (other_joins p s n ∙ ap₂ (λ (x : Tally) (y : List ℕ). page_of p.bytes p.filled (draft_of x y)) (sym post_is) (sym w)))
+        refl (record { counted = c.sound; filled_is = sound.filled_is ∙ ap (λ (k : ℕ). k * 512) (sym (ap (λ (x : Tally). x.blocks) (post_is ∙ sym (posted_joins u n)))) })
 
 module _ (p : Page) (sound : Sound p) where
-  pub end-nothing : p.draft.tally.waiting ≡ 0 → Answers p (taken (ended p)) Accepted p
+  pub end_nothing : p.draft.tally.waiting ≡ 0 → Answers p (taken (ended p)) Accepted p
   unfolding ended
-  end-nothing e = record { verdict = refl; after = rw (eq-eqb _ _ e); size = refl; sound = sound }
+  end_nothing e = record { verdict = refl; after = rw (eq-eqb _ _ e); size = refl; sound = sound }
 
-  pub end-room : (p.draft.tally.waiting ≡ 0 → ⊥) → (p.draft.tally.blocks < 65536) × (p.filled + 512 ≤ length p.bytes)
-  end-room n =
-      let b = end-begun (length p.bytes) p.draft.tally sound.counted n in
+  pub end_room : (p.draft.tally.waiting ≡ 0 → ⊥) → (p.draft.tally.blocks < 65536) × (p.filled + 512 ≤ length p.bytes)
+  end_room n =
+      let b = end_begun (length p.bytes) p.draft.tally sound.counted n in
       (b.number, omega (arith, b.room_left, sound.filled_is))
 
-  pub end-answers : (bytes : List ℕ) (q : Tally) → (p.draft.tally.waiting ≡ 0 → ⊥)
+  pub end_answers : (bytes : List ℕ) (q : Tally) → (p.draft.tally.waiting ≡ 0 → ⊥)
       → Counts (length p.bytes) p.draft.tally (taken (tally.ended p.draft.tally)) Accepted q
       → bytes ≡ placed p.bytes p.filled (block_of 3 p.draft.tally.waiting p.draft.tally.blocks (body_of p.draft.block)) → length bytes ≡ length p.bytes
       → Answers p (taken (ended p)) Accepted (page_of bytes (p.filled + 512) (fresh_draft q))
   unfolding ended tally.ended
-  end-answers bytes q n c b size =
+  end_answers bytes q n c b size =
       finished_is p p.draft.tally.waiting p.draft.block bytes q (taken (ended p)) sound (rw (ne_eqb p.draft.tally.waiting 0 n))
       (c.after ∙ rw (ne_eqb p.draft.tally.waiting 0 n)) c.sound b size

@@ -39,29 +39,29 @@ room_is room blocks = go (ltb blocks (room / 512)) refl
 -- ---- a table of checks behind another
 
 module _ {A : Type 0} (ys : List Check) (a : A) where
-  pub behind-declined : (xs : List Check) (d : Decline) → Declined d ≡ verdict_of (checked xs a) → Declined d ≡ verdict_of (checked (xs ++ ys) a)
+  pub behind_declined : (xs : List Check) (d : Decline) → Declined d ≡ verdict_of (checked xs a) → Declined d ≡ verdict_of (checked (xs ++ ys) a)
   unfolding checked
-  behind-declined [] d e = let z : ◌≡◌ {A = ℕ} 0 1 = cc in absurd (omega arith)
-  behind-declined (check true n ∷ xs) d e = behind-declined xs d e
-  behind-declined (check false n ∷ xs) d e = e
+  behind_declined [] d e = let z : ◌≡◌ {A = ℕ} 0 1 = cc in absurd (omega arith)
+  behind_declined (check true n ∷ xs) d e = behind_declined xs d e
+  behind_declined (check false n ∷ xs) d e = e
 
-  pub behind-passed : (xs : List Check) → Accepted ≡ verdict_of (checked xs a) → verdict_of (checked ys a) ≡ verdict_of (checked (xs ++ ys) a)
+  pub behind_passed : (xs : List Check) → Accepted ≡ verdict_of (checked xs a) → verdict_of (checked ys a) ≡ verdict_of (checked (xs ++ ys) a)
   unfolding checked
-  behind-passed [] e = refl
-  behind-passed (check true n ∷ xs) e = behind-passed xs e
-  behind-passed (check false n ∷ xs) e = let z : ◌≡◌ {A = ℕ} 0 1 = cc in absurd (omega arith)
+  behind_passed [] e = refl
+  behind_passed (check true n ∷ xs) e = behind_passed xs e
+  behind_passed (check false n ∷ xs) e = let z : ◌≡◌ {A = ℕ} 0 1 = cc in absurd (omega arith)
 
 -- ---- a post's verdict
 
 module _ (room : ℕ) (t : Tally) (s : List ℕ) where
-  pub out-of-turn : may_post t.outline ≡ false → post_answer room t s ≡ declined 4
+  pub out_of_turn_lem : may_post t.outline ≡ false → post_answer room t s ≡ declined 4
   unfolding post_answer checked
-  out-of-turn e = rw e
+  out_of_turn_lem e = rw e
 
   module _ (e : may_post t.outline ≡ true) where
-    pub not-formed : (d : Decline) → Declined d ≡ verdict_of (well_formed t.outline s) → Declined d ≡ verdict_of (post_answer room t s)
+    pub not_formed : (d : Decline) → Declined d ≡ verdict_of (well_formed t.outline s) → Declined d ≡ verdict_of (post_answer room t s)
     unfolding post_answer checked
-    not-formed d f = rw e (go (well_formed t.outline s) f)
+    not_formed d f = rw e (go (well_formed t.outline s) f)
       where
         go : (a : Answer Row) → Declined d ≡ verdict_of a → Declined d ≡ verdict_of (on_taken a (λ k. checked (check (may_begin room t) no_room ∷ []) k))
         go (taken k) g = let z : ◌≡◌ {A = ℕ} 0 1 = cc in absurd (omega arith)
@@ -112,52 +112,52 @@ module _ (room : ℕ) (t : Tally) (part : SetupPart) (count : ℕ) (body : List 
   unfolding part_on
   not_taken d e = declines (tt {0}) (set_up t part count body) (set_up_checks room t part count body) d e
 
-  pub all-passed : Accepted ≡ verdict_of (checked (set_up_checks room t part count body) (tt {0})) → AllPass (set_up_checks room t part count body)
-  all-passed e = (passed (set_up_checks room t part count body) (tt {0}) (tt {0}) (accepts (tt {0}) (tt {0}) (set_up_checks room t part count body) e)).0
+  pub all_passed : Accepted ≡ verdict_of (checked (set_up_checks room t part count body) (tt {0})) → AllPass (set_up_checks room t part count body)
+  all_passed e = (passed (set_up_checks room t part count body) (tt {0}) (tt {0}) (accepts (tt {0}) (tt {0}) (set_up_checks room t part count body) e)).0
 
 module _ (room : ℕ) (t : Tally) (s : List ℕ) where
-  pub answer-takes : (a : Answer Row) → Accepted ≡ verdict_of a → on_taken a (λ _. taken (posted t)) ≡ taken (posted t)
-  answer-takes (taken k) e = refl
-  answer-takes (declined n) e = let z : ◌≡◌ {A = ℕ} 0 1 = cc in absurd (omega arith)
+  pub answer_takes : (a : Answer Row) → Accepted ≡ verdict_of a → on_taken a (λ _. taken (posted t)) ≡ taken (posted t)
+  answer_takes (taken k) e = refl
+  answer_takes (declined n) e = let z : ◌≡◌ {A = ℕ} 0 1 = cc in absurd (omega arith)
 
-  post-takes : Accepted ≡ verdict_of (post_answer room t s) → post_on room t s ≡ taken (posted t)
+  post_takes : Accepted ≡ verdict_of (post_answer room t s) → post_on room t s ≡ taken (posted t)
   unfolding post_on
-  post-takes e = answer-takes (post_answer room t s) e
+  post_takes e = answer_takes (post_answer room t s) e
 
-  pub answer-declines : (a : Answer Row) (d : Decline) → Declined d ≡ verdict_of a → on_taken a (λ _. taken (posted t)) ≡ declined d.number
-  answer-declines (taken k) d e = let z : ◌≡◌ {A = ℕ} 0 1 = cc in absurd (omega arith)
-  answer-declines (declined n) d e = cc
+  pub answer_declines : (a : Answer Row) (d : Decline) → Declined d ≡ verdict_of a → on_taken a (λ _. taken (posted t)) ≡ declined d.number
+  answer_declines (taken k) d e = let z : ◌≡◌ {A = ℕ} 0 1 = cc in absurd (omega arith)
+  answer_declines (declined n) d e = cc
 
-  pub post-declines : (d : Decline) → Declined d ≡ verdict_of (post_answer room t s) → post_on room t s ≡ declined d.number
+  pub post_declines : (d : Decline) → Declined d ≡ verdict_of (post_answer room t s) → post_on room t s ≡ declined d.number
   unfolding post_on
-  post-declines d e = answer-declines (post_answer room t s) d e
+  post_declines d e = answer_declines (post_answer room t s) d e
 
   -- what an accepted post tells: it is in its turn, and where it begins a block there is room
-  post-told : Accepted ≡ verdict_of (post_answer room t s) → (may_post t.outline ≡ true) × (may_begin room t ≡ true)
-  post-told e = in_turn (may_post t.outline) refl
+  post_told : Accepted ≡ verdict_of (post_answer room t s) → (may_post t.outline ≡ true) × (may_begin room t ≡ true)
+  post_told e = in_turn (may_post t.outline) refl
     where
       has_room : (m : Bool) → cond m Accepted (Declined (record { number = 13 })) ≡ Accepted → m ≡ true
       has_room true g = refl
       has_room false g = let z : ◌≡◌ {A = ℕ} 0 1 = cc in absurd (omega arith)
 
-      is-formed : may_post t.outline ≡ true → (a : Answer Row) → well_formed t.outline s ≡ a → may_begin room t ≡ true
-      is-formed f (taken k) h = has_room (may_begin room t) (formed room t s f (sym (ap verdict_of h)) ∙ sym e)
-      is-formed f (declined n) h =
-          let g : Accepted ≡ Declined (record { number = n }) = e ∙ sym (not-formed room t s f (record { number = n }) (sym (ap verdict_of h))) in
+      is_formed : may_post t.outline ≡ true → (a : Answer Row) → well_formed t.outline s ≡ a → may_begin room t ≡ true
+      is_formed f (taken k) h = has_room (may_begin room t) (formed room t s f (sym (ap verdict_of h)) ∙ sym e)
+      is_formed f (declined n) h =
+          let g : Accepted ≡ Declined (record { number = n }) = e ∙ sym (not_formed room t s f (record { number = n }) (sym (ap verdict_of h))) in
           let z : ◌≡◌ {A = ℕ} 0 1 = cc in absurd (omega arith)
 
       in_turn : (p : Bool) → may_post t.outline ≡ p → (may_post t.outline ≡ true) × (may_begin room t ≡ true)
-      in_turn true f = (f, is-formed f (well_formed t.outline s) refl)
-      in_turn false f = let g : Accepted ≡ Declined (record { number = 4 }) = e ∙ ap verdict_of (out-of-turn room t s f) in let z : ◌≡◌ {A = ℕ} 0 1 = cc in absurd (omega arith)
+      in_turn true f = (f, is_formed f (well_formed t.outline s) refl)
+      in_turn false f = let g : Accepted ≡ Declined (record { number = 4 }) = e ∙ ap verdict_of (out_of_turn_lem room t s f) in let z : ◌≡◌ {A = ℕ} 0 1 = cc in absurd (omega arith)
 
 module _ (t : Tally) where
-  pub posted-finishes : t.waiting ≡ 9 → finished t ≡ posted t
+  pub posted_finishes : t.waiting ≡ 9 → finished t ≡ posted t
   unfolding posted
-  posted-finishes e = rw (eq-eqb _ _ e)
+  posted_finishes e = rw (eq-eqb _ _ e)
 
-  pub posted-joins : (t.waiting ≡ 9 → ⊥) → record { outline = t.outline; waiting = t.waiting + 1; blocks = t.blocks } ≡ posted t
+  pub posted_joins : (t.waiting ≡ 9 → ⊥) → record { outline = t.outline; waiting = t.waiting + 1; blocks = t.blocks } ≡ posted t
   unfolding posted
-  posted-joins n = rw (ne_eqb _ _ n)
+  posted_joins n = rw (ne_eqb _ _ n)
 
 -- ---- what an accepted set-up block tells
 
@@ -207,23 +207,23 @@ module _ (room : ℕ) (t : Tally) (sound : Sound room t) where
       go false f = absurd (true≢false (sym (sound.begun (omega (arith, eqb-false t.waiting 0 f))).in_turn ∙ e))
 
   module _ (part : SetupPart) (count : ℕ) (body : List ℕ) (pass : AllPass (set_up_checks room t part count body)) where
-    set-up-parts : AllPass (part_checks t.outline part count body) × AllPass (check (is_free room t) no_room ∷ [])
-    set-up-parts = pass_both (part_checks t.outline part count body) (check (is_free room t) no_room ∷ []) pass
+    set_up_parts : AllPass (part_checks t.outline part count body) × AllPass (check (is_free room t) no_room ∷ [])
+    set_up_parts = pass_both (part_checks t.outline part count body) (check (is_free room t) no_room ∷ []) pass
 
-    pub set-up-free : Free room t
-    set-up-free = is_free_lem room t set-up-parts.1.0
+    pub set_up_free : Free room t
+    set_up_free = is_free_lem room t set_up_parts.1.0
 
-    pub set-up-none-waits : t.waiting ≡ 0
-    set-up-none-waits = none_waits (early t.outline part count body set-up-parts.0).0
+    pub set_up_none_waits : t.waiting ≡ 0
+    set_up_none_waits = none_waits (early t.outline part count body set_up_parts.0).0
 
-    pub set-up-stage : part ≡ Stage → may_describe t.outline count ≡ true
-    set-up-stage = next_stage t.outline part count body set-up-parts.0
+    pub set_up_stage : part ≡ Stage → may_describe t.outline count ≡ true
+    set_up_stage = next_stage t.outline part count body set_up_parts.0
 
-    pub set-up-sound : Sound room (set_up t part count body)
+    pub set_up_sound : Sound room (set_up t part count body)
     unfolding set_up
-    set-up-sound =
-        let none = set-up-none-waits in
-        let free = set-up-free in
+    set_up_sound =
+        let none = set_up_none_waits in
+        let free = set_up_free in
         record {
           few = sound.few;
           blocks_few = omega (arith, free.number);
@@ -231,13 +231,13 @@ module _ (room : ℕ) (t : Tally) (sound : Sound room t) where
           begun = λ h. absurd (omega (arith, none, h));
         }
 
-    pub set-up-counts : (o : Outline) → o ≡ outline_after t.outline part count body → Counts room t (part_on room t part count body) Accepted
+    pub set_up_counts : (o : Outline) → o ≡ outline_after t.outline part count body → Counts room t (part_on room t part count body) Accepted
         (record { outline = o; waiting = t.waiting; blocks = t.blocks + 1 })
     unfolding part_on set_up
-    set-up-counts o e =
+    set_up_counts o e =
         let is : part_on room t part count body ≡ taken (set_up t part count body) = pass_taken (set_up_checks room t part count body) (set_up t part count body) pass in
         let same = ap {B = Tally} (λ (x : Outline). record { outline = x; waiting = t.waiting; blocks = t.blocks + 1 }) e in
-        counted room t (part_on room t part count body) (set_up t part count body) _ same (subst (Sound room) (sym same) set-up-sound) is
+        counted room t (part_on room t part count body) (set_up t part count body) _ same (subst (Sound room) (sym same) set_up_sound) is
 
   -- ---- posts and ends
 
@@ -250,8 +250,8 @@ module _ (room : ℕ) (t : Tally) (sound : Sound room t) where
             record { number = free.number; room_left = free.fits; in_turn = in_turn }
         go false e = sound.begun (omega (arith, eqb-false t.waiting 0 e))
 
-  finished-sound : Begun room t → Sound room (finished t)
-  finished-sound b =
+  finished_sound : Begun room t → Sound room (finished t)
+  finished_sound b =
       record {
         few = omega arith;
         blocks_few = omega (arith, b.number);
@@ -259,8 +259,8 @@ module _ (room : ℕ) (t : Tally) (sound : Sound room t) where
         begun = λ h. absurd (omega (arith, h));
       }
 
-  joined-sound : Begun room t → t.waiting < 9 → Sound room (record { outline = t.outline; waiting = t.waiting + 1; blocks = t.blocks })
-  joined-sound b few =
+  joined_sound : Begun room t → t.waiting < 9 → Sound room (record { outline = t.outline; waiting = t.waiting + 1; blocks = t.blocks })
+  joined_sound b few =
       record {
         few = omega (arith, few);
         blocks_few = sound.blocks_few;
@@ -272,22 +272,22 @@ module _ (room : ℕ) (t : Tally) (sound : Sound room t) where
   unfolding ended
   end_none e = record { verdict = refl; after = rw (eq-eqb _ _ e); sound = sound }
 
-  pub end-begun : (t.waiting ≡ 0 → ⊥) → Begun room t
-  end-begun n = sound.begun (omega (arith, n))
+  pub end_begun : (t.waiting ≡ 0 → ⊥) → Begun room t
+  end_begun n = sound.begun (omega (arith, n))
 
-  pub end-finishes : (t.waiting ≡ 0 → ⊥) → Counts room t (taken (ended t)) Accepted (finished t)
+  pub end_finishes : (t.waiting ≡ 0 → ⊥) → Counts room t (taken (ended t)) Accepted (finished t)
   unfolding ended
-  end-finishes n = record { verdict = refl; after = rw (ne_eqb _ _ n); sound = finished-sound (end-begun n) }
+  end_finishes n = record { verdict = refl; after = rw (ne_eqb _ _ n); sound = finished_sound (end_begun n) }
 
   module _ (s : List ℕ) (accepted : Accepted ≡ verdict_of (post_answer room t s)) where
-    pub post-begun : Begun room t
-    post-begun = let z = post-told room t s accepted in begun z.0 z.1
+    pub post_begun : Begun room t
+    post_begun = let z = post_told room t s accepted in begun z.0 z.1
 
-    pub post-finishes : t.waiting ≡ 9 → Counts room t (post_on room t s) Accepted (finished t)
-    post-finishes e = counted room t (post_on room t s) (posted t) (finished t) (posted-finishes t e) (finished-sound post-begun) (post-takes room t s accepted)
+    pub post_finishes : t.waiting ≡ 9 → Counts room t (post_on room t s) Accepted (finished t)
+    post_finishes e = counted room t (post_on room t s) (posted t) (finished t) (posted_finishes t e) (finished_sound post_begun) (post_takes room t s accepted)
 
-    pub post-joins : (t.waiting ≡ 9 → ⊥) → Counts room t (post_on room t s) Accepted (record { outline = t.outline; waiting = t.waiting + 1; blocks = t.blocks })
-    post-joins n = counted room t (post_on room t s) (posted t) _ (posted-joins t n) (joined-sound post-begun (omega (arith, sound.few, n))) (post-takes room t s accepted)
+    pub post_joins : (t.waiting ≡ 9 → ⊥) → Counts room t (post_on room t s) Accepted (record { outline = t.outline; waiting = t.waiting + 1; blocks = t.blocks })
+    post_joins n = counted room t (post_on room t s) (posted t) _ (posted_joins t n) (joined_sound post_begun (omega (arith, sound.few, n))) (post_takes room t s accepted)
 
 -- a new writer's tally, in a buffer of any length
 pub tally_fresh : (room : ℕ) → Sound room fresh_tally

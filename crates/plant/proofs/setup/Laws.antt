@@ -15,7 +15,7 @@ use lib.Seq.{drop-drop}
 use borrow.Author.Tests.{lt-ltb, le-ltb}
 use Rattle.encoding.specs.Bytes.{le, les}
 use Rattle.encoding.specs.Each.{all_to, put_to}
-use Rattle.encoding.proofs.Each.{put-again, fill_done, all_again, all_fails}
+use Rattle.encoding.proofs.Each.{put_again, fill_done, all_again, all_fails}
 
 -- ---- numbers of w bytes, one after the other
 
@@ -24,13 +24,13 @@ abbrev pub filled : ℕ → ℕ → ℕ → List ℕ → ℕ → List ℕ
 filled w n at s i = put_to (λ k. k) (λ k. le w (drop (k * w) (drop at s))) (replicate n 0) i
 
 module _ (w n at : ℕ) (s : List ℕ) (i : ℕ) (out : List ℕ) (inv : out ≡ filled w n at s i) where
-  pub filled-again : (v : ℕ) → v ≡ le w (drop (at + i * w) s) → set out i v ≡ filled w n at s (i + 1)
-  filled-again v e =
-      put-again (λ k. k) (λ k. le w (drop (k * w) (drop at s))) (replicate n 0) i out v inv
+  pub filled_again : (v : ℕ) → v ≡ le w (drop (at + i * w) s) → set out i v ≡ filled w n at s (i + 1)
+  filled_again v e =
+      put_again (λ k. k) (λ k. le w (drop (k * w) (drop at s))) (replicate n 0) i out v inv
       (e ∙ ap (λ (l : List ℕ). le w l) (sym (drop-drop (i * w) at s)))
 
-  pub filled-done : i ≤ n → n ≤ i → out ≡ les w n (drop at s)
-  filled-done h g = fill_done n (λ k. le w (drop (k * w) (drop at s))) 0 i out h g inv
+  pub filled_done : i ≤ n → n ≤ i → out ≡ les w n (drop at s)
+  filled_done h g = fill_done n (λ k. le w (drop (k * w) (drop at s))) 0 i out h g inv
 
 -- ---- rising numbers
 
@@ -41,8 +41,8 @@ module _ (n : ℕ) (s : List ℕ) (i last x : ℕ) (was : last ≡ before s i) (
   pub falls : i < n → x ≤ last → false ≡ rising n s
   falls h g = all_fails n (rises s) i h (le-ltb (before s i) (number_at s i) (omega arith))
 
-  pub rises-again : all_to i (rises s) ≡ true → last < x → (x ≡ before s (i + 1)) × (all_to (i + 1) (rises s) ≡ true)
-  rises-again all g = (rw add-one is, all_again i (rises s) all (lt-ltb (before s i) (number_at s i) (omega arith)))
+  pub rises_again : all_to i (rises s) ≡ true → last < x → (x ≡ before s (i + 1)) × (all_to (i + 1) (rises s) ≡ true)
+  rises_again all g = (rw add-one is, all_again i (rises s) all (lt-ltb (before s i) (number_at s i) (omega arith)))
 
 -- ---- the set-up read
 

@@ -14,7 +14,7 @@ use Rattle.layout.specs.Outline.{may_post}
 use Rattle.plant.specs.Setup.{no_rates, materials_in, stages_in, classes_in, contents_in, counted_all, setup_checks, fresh_setup, setup_of, Rated, SoundSetup}
 use Rattle.layout.specs.declared.outline.Outline.{Outline}
 use Rattle.layout.proofs.Checked.{passed}
-use Rattle.encoding.proofs.Each.{list-keeps}
+use Rattle.encoding.proofs.Each.{list_keeps}
 use Rattle.encoding.proofs.bytes.Laws.{within_true}
 
 -- each place of a list of one value has it
@@ -59,7 +59,7 @@ counted_le class ppm = go (is_class class) (leb ppm 1000000) (leb (counted_from 
 
 counted_all_le : (classes contents : List ℕ) (i : ℕ) → get_or (counted_all classes contents) i 0 ≤ 1000000
 counted_all_le classes contents =
-    list-keeps (λ n. n ≤ 1000000) 96 (λ k. value_or 0 (counted_of (get_or classes (k % 8) 0) (get_or contents k 0))) 0 (omega arith)
+    list_keeps (λ n. n ≤ 1000000) 96 (λ k. value_or 0 (counted_of (get_or classes (k % 8) 0) (get_or contents k 0))) 0 (omega arith)
     (λ k h. counted_le (get_or classes (k % 8) 0) (get_or contents k 0))
 
 -- what an accepted block's checks tell

@@ -35,9 +35,9 @@ use Rattle.post.specs.declared.moves.Move.{Move}
 -- ---- 6, check by check
 
 module _ (o : Outline) (s : List ℕ) where
-  pub wrong-length : (length s ≡ 48 → ⊥) → declined 6 ≡ laid_of (post_at s) (laid_out o s)
+  pub wrong_length : (length s ≡ 48 → ⊥) → declined 6 ≡ laid_of (post_at s) (laid_out o s)
   unfolding laid_out
-  wrong-length h = rw (ne_eqb (length s) 48 h)
+  wrong_length h = rw (ne_eqb (length s) 48 h)
 
   module _ (long : length s ≡ 48) (p : Post) (same : p ≡ post_at s) where
     pub no_row : kind_of p.kind ≡ declined layout → declined 6 ≡ laid_of (post_at s) (laid_out o s)
@@ -45,9 +45,9 @@ module _ (o : Outline) (s : List ℕ) where
     no_row h = rw (eq-eqb (length s) 48 long, ← same, h)
 
     module _ (r : Row) (found : kind_of p.kind ≡ taken r) where
-      pub no-fit : fields_fit (r.limits o) p ≡ false → declined 6 ≡ laid_of (post_at s) (laid_out o s)
+      pub no_fit : fields_fit (r.limits o) p ≡ false → declined 6 ≡ laid_of (post_at s) (laid_out o s)
       unfolding laid_out
-      no-fit h = rw (eq-eqb (length s) 48 long, ← same, found, h)
+      no_fit h = rw (eq-eqb (length s) 48 long, ← same, found, h)
 
       pub laid : fields_fit (r.limits o) p ≡ true → taken (laid_as p r) ≡ laid_of (post_at s) (laid_out o s)
       unfolding laid_out
@@ -80,13 +80,13 @@ refused_laid p (taken r) n e = let z : ◌≡◌ {A = ℕ} 0 1 = cc in absurd (o
 refused_laid p (declined m) n e = cc
 
 module _ (o : Outline) (s : List ℕ) where
-  pub not-laid : (numbers : List ℕ) (n : ℕ) → laid_out o s ≡ declined n → declined n ≡ move_at o numbers s
+  pub not_laid : (numbers : List ℕ) (n : ℕ) → laid_out o s ≡ declined n → declined n ≡ move_at o numbers s
   unfolding move_at well_formed
-  not-laid numbers n h = rw h
+  not_laid numbers n h = rw h
 
-  pub not-formed : (d : Decline) → laid_out o s ≡ declined d.number → Declined d ≡ verdict_of (well_formed o s)
+  pub not_formed : (d : Decline) → laid_out o s ≡ declined d.number → Declined d ≡ verdict_of (well_formed o s)
   unfolding well_formed
-  not-formed d h = rw h
+  not_formed d h = rw h
 
   module _ (r : Row) (is : laid_out o s ≡ taken r) where
     -- the row is that of the post's kind, and its limits hold
@@ -103,28 +103,28 @@ module _ (o : Outline) (s : List ℕ) where
         )
 
     -- a loss whose floats aren't in their ranges is a 7
-    no-loss : (numbers : List ℕ) → floats_fit Loss (post_at s) ≡ false → 1 ≤ (post_at s).material → (post_at s).material < 4 → measured Loss numbers (post_at s) ≡ declined range
+    no_loss : (numbers : List ℕ) → floats_fit Loss (post_at s) ≡ false → 1 ≤ (post_at s).material → (post_at s).material < 4 → measured Loss numbers (post_at s) ≡ declined range
     unfolding measured
-    no-loss numbers h low high =
+    no_loss numbers h low high =
         let p = post_at s in
         over_range p.material (row_of (get_or numbers p.substance 0)) (value_of p.w) (value_of p.u) (value_of p.p) (value_of p.q) low high h
 
-    one-row : (t : Bool) (numbers : List ℕ)
+    one_row : (t : Bool) (numbers : List ℕ)
         → on_taken (checked (check t range ∷ []) r) (λ k. move_in k numbers (post_at s)) ≡ on_taken (checked (check t range ∷ []) r) (λ _. move_in r numbers (post_at s))
     unfolding checked
-    one-row true numbers = refl
-    one-row false numbers = refl
+    one_row true numbers = refl
+    one_row false numbers = refl
 
     -- 7 of the post, and then its amount, is the amount as the code reads it
-    by-floats : (m : Measure) (t : Bool) (numbers : List ℕ) (f : ℕ → Answer Move) → floats_fit m (post_at s) ≡ t → (m ≡ Loss → (1 ≤ (post_at s).material) × ((post_at s).material < 4))
+    by_floats : (m : Measure) (t : Bool) (numbers : List ℕ) (f : ℕ → Answer Move) → floats_fit m (post_at s) ≡ t → (m ≡ Loss → (1 ≤ (post_at s).material) × ((post_at s).material < 4))
         → on_taken (checked (check t range ∷ []) r) (λ _. on_taken (measured m numbers (post_at s)) f) ≡ on_taken (amount_read m numbers (post_at s)) f
     unfolding measured amount_read checked
-    by-floats Quantity true numbers f h form = rw h
-    by-floats Quantity false numbers f h form = rw h
-    by-floats Content true numbers f h form = rw h
-    by-floats Content false numbers f h form = rw h
-    by-floats Loss true numbers f h form = refl
-    by-floats Loss false numbers f h form = let b = form refl in sym (ap (λ (x : Answer ℕ). on_taken x f) (no-loss numbers h b.0 b.1))
+    by_floats Quantity true numbers f h form = rw h
+    by_floats Quantity false numbers f h form = rw h
+    by_floats Content true numbers f h form = rw h
+    by_floats Content false numbers f h form = rw h
+    by_floats Loss true numbers f h form = refl
+    by_floats Loss false numbers f h form = let b = form refl in sym (ap (λ (x : Answer ℕ). on_taken x f) (no_loss numbers h b.0 b.1))
 
     move_read : (numbers : List ℕ) → move_at o numbers s ≡ on_taken (amount_read r.measure numbers (post_at s)) (λ n. taken (move_of r.does (post_at s) n))
     unfolding move_at well_formed
@@ -132,12 +132,12 @@ module _ (o : Outline) (s : List ℕ) where
         let p = post_at s in
         let z = row_laid in
         ap (λ (x : Answer Row). on_taken (on_taken x (λ k. checked (check (floats_fit k.measure p) range ∷ []) k)) (λ k. move_in k numbers p)) is
-        ∙ one-row (floats_fit r.measure p) numbers
-        ∙ by-floats r.measure (floats_fit r.measure p) numbers (λ n. taken (move_of r.does p n)) refl
+        ∙ one_row (floats_fit r.measure p) numbers
+        ∙ by_floats r.measure (floats_fit r.measure p) numbers (λ n. taken (move_of r.does p n)) refl
         (λ e. form_fits o r.does r.measure (r.limits o) p (well o p.kind r z.0) e z.1)
 
-    pub no-amount : (numbers : List ℕ) (n : ℕ) → declined n ≡ amount_read r.measure numbers (post_at s) → declined n ≡ move_at o numbers s
-    no-amount numbers n h = ap (λ (x : Answer ℕ). on_taken x (λ n. taken (move_of r.does (post_at s) n))) h ∙ sym (move_read numbers)
+    pub no_amount : (numbers : List ℕ) (n : ℕ) → declined n ≡ amount_read r.measure numbers (post_at s) → declined n ≡ move_at o numbers s
+    no_amount numbers n h = ap (λ (x : Answer ℕ). on_taken x (λ n. taken (move_of r.does (post_at s) n))) h ∙ sym (move_read numbers)
 
     pub amount : (numbers : List ℕ) (n : ℕ) → taken n ≡ amount_read r.measure numbers (post_at s) → taken (move_of r.does (post_at s) n) ≡ move_at o numbers s
     amount numbers n h = ap (λ (x : Answer ℕ). on_taken x (λ n. taken (move_of r.does (post_at s) n))) h ∙ sym (move_read numbers)
@@ -146,9 +146,9 @@ module _ (o : Outline) (s : List ℕ) where
     unfolding well_formed
     formed h = rw (is, h)
 
-    pub no-range : floats_fit r.measure (post_at s) ≡ false → Declined (record { number = 7 }) ≡ verdict_of (well_formed o s)
+    pub no_range : floats_fit r.measure (post_at s) ≡ false → Declined (record { number = 7 }) ≡ verdict_of (well_formed o s)
     unfolding well_formed
-    no-range h = rw (is, h)
+    no_range h = rw (is, h)
 
 -- ---- what a move that is read tells
 
@@ -162,26 +162,26 @@ move_laid o numbers s m e =
     (a.0, b.1 ∙ ap taken (sym same), a.2)
 
 module _ (o : Outline) (numbers : List ℕ) (p : Post) (r : Row) (n : ℕ) (told : measured r.measure numbers p ≡ taken n) (u : Under (r.limits o) p) where
-  grams-of : (m : Measure) → measured m numbers p ≡ taken n → Stocks m (r.limits o) → n ≤ 2000000000
+  grams_of : (m : Measure) → measured m numbers p ≡ taken n → Stocks m (r.limits o) → n ≤ 2000000000
   unfolding measured
-  grams-of Quantity e q = let low = u.quantity in let same : p.quantity ≡ n = cc in omega (arith, same, ap (λ (x : Span). x.end) q)
-  grams-of Content e q = absurd q
-  grams-of Loss e q = absurd q
+  grams_of Quantity e q = let low = u.quantity in let same : p.quantity ≡ n = cc in omega (arith, same, ap (λ (x : Span). x.end) q)
+  grams_of Content e q = absurd q
+  grams_of Loss e q = absurd q
 
-  amount-of : (m : Measure) → measured m numbers p ≡ taken n → Amounts m (r.limits o) → n ≤ 2000000000000000
+  amount_of : (m : Measure) → measured m numbers p ≡ taken n → Amounts m (r.limits o) → n ≤ 2000000000000000
   unfolding measured
-  amount-of Quantity e q = let low = u.quantity in let same : p.quantity ≡ n = cc in omega (arith, same, ap (λ (x : Span). x.end) q)
-  amount-of Content e q =
+  amount_of Quantity e q = let low = u.quantity in let same : p.quantity ≡ n = cc in omega (arith, same, ap (λ (x : Span). x.end) q)
+  amount_of Content e q =
       let low = product_small p.quantity p.content (rw q.1 at u.quantity) (rw q.0 at u.content) in
       let same : p.quantity * p.content ≡ n = cc in
       omega (arith, same)
-  amount-of Loss e q = over_bounded _ _ _ _ _ _ n e
+  amount_of Loss e q = over_bounded _ _ _ _ _ _ n e
 
   fits_by : (d : Does) → Well o d r.measure (r.limits o) → Fits o (move_of d p n)
-  fits_by Receives w = (rw w.0 at u.material, grams-of r.measure told w.1)
-  fits_by Issues w = (rw w.0 at u.material, (rw w.1.0 at u.stage, grams-of r.measure told w.1.1))
-  fits_by (Brings account) w = (w.0, (rw w.1.0 at u.stage, (rw w.1.1.0 at u.substance, amount-of r.measure told w.1.1.1)))
-  fits_by (Leaves account) w = (w.0, (rw w.1.0 at u.stage, (rw w.1.1.0 at u.substance, amount-of r.measure told w.1.1.1)))
+  fits_by Receives w = (rw w.0 at u.material, grams_of r.measure told w.1)
+  fits_by Issues w = (rw w.0 at u.material, (rw w.1.0 at u.stage, grams_of r.measure told w.1.1))
+  fits_by (Brings account) w = (w.0, (rw w.1.0 at u.stage, (rw w.1.1.0 at u.substance, amount_of r.measure told w.1.1.1)))
+  fits_by (Leaves account) w = (w.0, (rw w.1.0 at u.stage, (rw w.1.1.0 at u.substance, amount_of r.measure told w.1.1.1)))
   fits_by Closes w = tt
 
 -- a move that is read fits the outline

@@ -23,7 +23,7 @@ use Rattle.records.specs.Records.{Recorded, call, malformed, span_of, first_of, 
 use Rattle.records.specs.Batch.{Outcome, complete, stopped, onward, record_on, write_all, written_in, end_of, left_in}
 use Rattle.records.specs.declared.batch.Stop.TheVariants.{At, Nowhere}
 use Rattle.records.specs.declared.batch.WriteEnd.TheVariants.{Written, Stopped}
-use Rattle.records.proofs.counting.Laws.{Reached, page-declined, page-taken}
+use Rattle.records.proofs.counting.Laws.{Reached, page_declined, page_taken}
 use Rattle.records.proofs.record.Laws.{first_short, records_first, records_end}
 
 -- ---- the first record, and then the rest
@@ -39,18 +39,18 @@ unfolding write_all
 write_none p place = refl
 
 module _ (s : List ℕ) (at : ℕ) (h : at < length s) (p : Page) (place : ℕ) where
-  next-is : write_all p place (records_in (drop at s))
+  next_is : write_all p place (records_in (drop at s))
       ≡ onward (record_on p (first_of (drop at s))) place (λ q. write_all q (suc place) (records_in (drop (at + span_of (drop at s)) s)))
-  next-is =
+  next_is =
       ap (write_all p place) (records_first (drop at s) (omega (arith, length-drop at s)))
       ∙ write_first p place (first_of (drop at s)) (records_in (rest_of (drop at s)))
       ∙ ap (λ (l : List ℕ). onward (record_on p (first_of (drop at s))) place (λ q. write_all q (suc place) (records_in l))) (drop-drop (span_of (drop at s)) at s)
 
   pub goes_on : (q : Page) → record_on p (first_of (drop at s)) ≡ taken q → write_all p place (records_in (drop at s)) ≡ write_all q (suc place) (records_in (drop (at + span_of (drop at s)) s))
-  goes_on q e = next-is ∙ ap (λ (a : Answer Page). onward a place (λ x. write_all x (suc place) (records_in (drop (at + span_of (drop at s)) s)))) e
+  goes_on q e = next_is ∙ ap (λ (a : Answer Page). onward a place (λ x. write_all x (suc place) (records_in (drop (at + span_of (drop at s)) s)))) e
 
   pub stops : (n : ℕ) → record_on p (first_of (drop at s)) ≡ declined n → write_all p place (records_in (drop at s)) ≡ stopped place n
-  stops n e = next-is ∙ ap (λ (a : Answer Page). onward a place (λ x. write_all x (suc place) (records_in (drop (at + span_of (drop at s)) s)))) e
+  stops n e = next_is ∙ ap (λ (a : Answer Page). onward a place (λ x. write_all x (suc place) (records_in (drop (at + span_of (drop at s)) s)))) e
 
 pub all_done : (s : List ℕ) (at : ℕ) (p : Page) (place : ℕ) → length s ≤ at → write_all p place (records_in (drop at s)) ≡ complete (ended p)
 all_done s at p place h = ap (write_all p place) (records_end (drop at s) (omega (arith, length-drop at s))) ∙ write_none p place
@@ -103,8 +103,8 @@ module _ (s lent : List ℕ) (p q : Page) (at : ℕ) (h : at < length s) (u : Up
   was_taken f = ap (λ (l : List ℕ). record_on p (first_of l)) (sym e) ∙ answers_taken (record_on p (first_of rest)) answers f
 
   -- a record that is taken ends behind its start, within the bytes
-  pub upto-within : v ≡ Accepted → at + span_of rest ≤ length s
-  upto-within f =
+  pub upto_within : v ≡ Accepted → at + span_of rest ≤ length s
+  upto_within f =
       let g = within_bytes (record_on p) (drop at s) q refl (was_taken f) in
       let k = ap span_of e in
       omega (arith, length-drop at s)
@@ -113,7 +113,7 @@ module _ (s lent : List ℕ) (p q : Page) (at : ℕ) (h : at < length s) (u : Up
   upto_next span k f =
       let same : at + span ≡ at + span_of (drop at s) = ap (λ (n : ℕ). at + n) (k ∙ ap span_of e) in
       record {
-        inside = subst (λ (n : ℕ). at + n ≤ length s) (sym k) (upto-within f);
+        inside = subst (λ (n : ℕ). at + n ≤ length s) (sym k) (upto_within f);
         sound = answers.sound;
         long = answers.size ∙ u.long;
         place = suc u.place;
@@ -124,8 +124,8 @@ module _ (s lent : List ℕ) (p q : Page) (at : ℕ) (h : at < length s) (u : Up
       }
 
   -- a record that is declined: nothing is whole
-  pub upto-stop : (d : Decline) (n : ℕ) (bytes : List ℕ) → v ≡ Declined d → Filled (written_in lent s) n bytes
-  upto-stop d n bytes f =
+  pub upto_stop : (d : Decline) (n : ℕ) (bytes : List ℕ) → v ≡ Declined d → Filled (written_in lent s) n bytes
+  upto_stop d n bytes f =
       let g = ap (λ (l : List ℕ). record_on p (first_of l)) (sym e) ∙ answers_declined (record_on p (first_of rest)) d answers f in
       let k = sym u.so_far ∙ stops s at h p u.place d.number g in
       record { filled = λ x w. absurd (never x w k); bytes_are = λ x w. absurd (never x w k) }
@@ -170,17 +170,17 @@ module _ (s : List ℕ) (room : ℕ) (t u : Tally) (place at : ℕ) (h : at < le
   here : Counts room t (record_counted room t (first_of (drop at s))) v u
   here = subst (λ (l : List ℕ). Counts room t (record_counted room t (first_of l)) v u) e counts
 
-  pub counting-within : v ≡ Accepted → at + span_of rest ≤ length s
-  counting-within f =
+  pub counting_within : v ≡ Accepted → at + span_of rest ≤ length s
+  counting_within f =
       let g = within_bytes (record_counted room t) (drop at s) u refl (counts_taken (record_counted room t (first_of (drop at s))) here f) in
       let k = ap span_of e in
       omega (arith, length-drop at s)
 
-  pub counting-next : (span : ℕ) → span ≡ span_of rest → v ≡ Accepted → Counting s room u (place + 1) (at + span)
-  counting-next span k f =
+  pub counting_next : (span : ℕ) → span ≡ span_of rest → v ≡ Accepted → Counting s room u (place + 1) (at + span)
+  counting_next span k f =
       let same : at + span ≡ at + span_of (drop at s) = ap (λ (n : ℕ). at + n) (k ∙ ap span_of e) in
       record {
-        inside = subst (λ (n : ℕ). at + n ≤ length s) (sym k) (counting-within f);
+        inside = subst (λ (n : ℕ). at + n ≤ length s) (sym k) (counting_within f);
         few = omega (arith, c.few);
         sound = counts.sound;
         come = λ lent l. go lent (c.come lent l) same;
@@ -188,7 +188,7 @@ module _ (s : List ℕ) (room : ℕ) (t u : Tally) (place at : ℕ) (h : at < le
     where
       go : (lent : List ℕ) → Come s lent room t place at → at + span ≡ at + span_of (drop at s) → Come s lent room u (place + 1) (at + span)
       go lent x same =
-          let q = page-taken room t u x.page (first_of (drop at s)) v x.reached here f in
+          let q = page_taken room t u x.page (first_of (drop at s)) v x.reached here f in
           record {
             page = q.0;
             reached = q.2;
@@ -199,10 +199,10 @@ module _ (s : List ℕ) (room : ℕ) (t u : Tally) (place at : ℕ) (h : at < le
                 ∙ x.so_far;
           }
 
-  pub counting-stop : (d : Decline) → v ≡ Declined d → StopsIn room s (At d.number place)
-  counting-stop d f lent l =
+  pub counting_stop : (d : Decline) → v ≡ Declined d → StopsIn room s (At d.number place)
+  counting_stop d f lent l =
       let x = c.come lent l in
-      let g = page-declined room t u x.page (first_of (drop at s)) v x.reached here d f in
+      let g = page_declined room t u x.page (first_of (drop at s)) v x.reached here d f in
       ap stop_of (sym (stops s at h x.page place d.number g) ∙ x.so_far)
 
 pub counting_end : (s : List ℕ) (room : ℕ) (t : Tally) (place at : ℕ) → Counting s room t place at → length s ≤ at → StopsIn room s Nowhere
@@ -216,14 +216,14 @@ complete_of (complete p) e = (p, refl)
 complete_of (stopped place n) e = let z : ◌≡◌ {A = ℕ} 0 1 = cc in absurd (omega arith)
 
 module _ (lent : List ℕ) (o : Outcome) where
-  pub ends-stopped : (n place : ℕ) → At n place ≡ stop_of o → (Stopped n place ≡ end_of o) × (lent ≡ left_in lent o)
-  ends-stopped n place e = go o e
+  pub ends_stopped : (n place : ℕ) → At n place ≡ stop_of o → (Stopped n place ≡ end_of o) × (lent ≡ left_in lent o)
+  ends_stopped n place e = go o e
     where
       go : (x : Outcome) → At n place ≡ stop_of x → (Stopped n place ≡ end_of x) × (lent ≡ left_in lent x)
       go (complete p) f = let z : ◌≡◌ {A = ℕ} 0 1 = cc in absurd (omega arith)
       go (stopped a b) f = (cc, refl)
 
-  pub ends-complete : (n : ℕ) (bytes : List ℕ) → Nowhere ≡ stop_of o → Filled o n bytes → (Written n ≡ end_of o) × (bytes ≡ left_in lent o)
-  ends-complete n bytes e f =
+  pub ends_complete : (n : ℕ) (bytes : List ℕ) → Nowhere ≡ stop_of o → Filled o n bytes → (Written n ≡ end_of o) × (bytes ≡ left_in lent o)
+  ends_complete n bytes e f =
       let w = complete_of o e in
       (ap Written (f.filled w.0 w.1) ∙ sym (ap end_of w.1), f.bytes_are w.0 w.1 ∙ sym (ap (left_in lent) w.1))

@@ -25,33 +25,33 @@ use Rattle.encoding.proofs.bytes.Placed.{placed_long, placed_out}
 use Rattle.records.specs.Counting.{record_counted}
 use Rattle.records.specs.Records.{Recorded, call, malformed, record_of, tag_of, span_of, bytes_of, first_of}
 use Rattle.records.specs.Batch.{record_on}
-use Rattle.records.proofs.record.Laws.{set-up-is, post_is, end_is, none_is, first_short, first_complete}
+use Rattle.records.proofs.record.Laws.{set_up_is, post_is, end_is, none_is, first_short, first_complete}
 
 -- ---- a record on a tally
 
 module _ (room : ℕ) (t : Tally) (tag : ℕ) (s : List ℕ) where
-  pub count-set-up : (kind count : ℕ) (body : List ℕ) → tag ≡ 83 → kind ≡ get_or s 0 0 → count ≡ get_or s 1 0 → body ≡ drop 2 s
+  pub count_set_up : (kind count : ℕ) (body : List ℕ) → tag ≡ 83 → kind ≡ get_or s 0 0 → count ≡ get_or s 1 0 → body ≡ drop 2 s
       → record_counted room t (record_of tag s) ≡ set_up_on room t kind count body
-  count-set-up kind count body e k n b = ap (record_counted room t) (set-up-is tag s e) ∙ rw (k, n, b)
+  count_set_up kind count body e k n b = ap (record_counted room t) (set_up_is tag s e) ∙ rw (k, n, b)
 
   module _ (no-set-up : tag ≡ 83 → ⊥) where
     pub count_post : tag ≡ 80 → record_counted room t (record_of tag s) ≡ post_on room t s
     count_post e = ap (record_counted room t) (post_is tag s no-set-up e)
 
     module _ (no-post : tag ≡ 80 → ⊥) where
-      pub count-end : tag ≡ 69 → record_counted room t (record_of tag s) ≡ taken (ended t)
-      count-end e = ap (record_counted room t) (end_is tag s no-set-up no-post e)
+      pub count_end : tag ≡ 69 → record_counted room t (record_of tag s) ≡ taken (ended t)
+      count_end e = ap (record_counted room t) (end_is tag s no-set-up no-post e)
 
       pub count_none : (tag ≡ 69 → ⊥) → record_counted room t (record_of tag s) ≡ declined 255
       count_none e = ap (record_counted room t) (none_is tag s no-set-up no-post e)
 
 module _ (room : ℕ) (t : Tally) (s : List ℕ) where
-  pub count-short : length s < span_of s → record_counted room t (first_of s) ≡ declined 255
-  count-short h = ap (record_counted room t) (first_short s h)
+  pub count_short : length s < span_of s → record_counted room t (first_of s) ≡ declined 255
+  count_short h = ap (record_counted room t) (first_short s h)
 
-  pub count-complete : (span : ℕ) (bytes : List ℕ) → span ≡ span_of s → span ≤ length s → bytes ≡ bytes_of s
+  pub count_complete : (span : ℕ) (bytes : List ℕ) → span ≡ span_of s → span ≤ length s → bytes ≡ bytes_of s
       → record_counted room t (first_of s) ≡ record_counted room t (record_of (tag_of s) bytes)
-  count-complete span bytes e h b =
+  count_complete span bytes e h b =
       ap (record_counted room t) (first_complete s (subst (λ (n : ℕ). n ≤ length s) e h)) ∙ ap (λ (l : List ℕ). record_counted room t (record_of (tag_of s) l)) (sym b)
 
 pub counts_as : {room : ℕ} {t u : Tally} {a b : Answer Tally} {v : Verdict} → a ≡ b → Counts room t b v u → Counts room t a v u
@@ -145,8 +145,8 @@ alike room t p r h =
 -- ---- what a verdict on a tally tells of a page
 
 module _ (room : ℕ) (t u : Tally) (p : Page) (r : Recorded) (v : Verdict) (h : Reached room t p) (c : Counts room t (record_counted room t r) v u) where
-  pub page-declined : (d : Decline) → v ≡ Declined d → record_on p r ≡ declined d.number
-  page-declined d e = go (record_on p r) (record_counted room t r) (alike room t p r h) (sym e ∙ c.verdict)
+  pub page_declined : (d : Decline) → v ≡ Declined d → record_on p r ≡ declined d.number
+  page_declined d e = go (record_on p r) (record_counted room t r) (alike room t p r h) (sym e ∙ c.verdict)
     where
       go : (a : Answer Page) (b : Answer Tally) → Alike room a b → Declined d ≡ verdict_of b → a ≡ declined d.number
       go (taken q) (taken w) k f = let z : ◌≡◌ {A = ℕ} 0 1 = cc in absurd (omega arith)
@@ -154,8 +154,8 @@ module _ (room : ℕ) (t u : Tally) (p : Page) (r : Recorded) (v : Verdict) (h :
       go (declined n) (taken w) k f = absurd k
       go (declined n) (declined m) k f = cc
 
-  pub page-taken : v ≡ Accepted → (q : Page) × (record_on p r ≡ taken q) × Reached room u q
-  page-taken e = go (record_on p r) (record_counted room t r) (alike room t p r h) (sym e ∙ c.verdict) c.after
+  pub page_taken : v ≡ Accepted → (q : Page) × (record_on p r ≡ taken q) × Reached room u q
+  page_taken e = go (record_on p r) (record_counted room t r) (alike room t p r h) (sym e ∙ c.verdict) c.after
     where
       go : (a : Answer Page) (b : Answer Tally) → Alike room a b → Accepted ≡ verdict_of b → u ≡ value_or t b → (q : Page) × (a ≡ taken q) × Reached room u q
       go (taken q) (taken w) k f g = (q, refl, subst (λ (x : Tally). Reached room x q) (sym g) k)

@@ -13,8 +13,8 @@ use Rattle.records.specs.Records.{Recorded, call, malformed, set_up_of, record_o
 -- ---- a record by its tag
 
 module _ (tag : ℕ) (s : List ℕ) where
-  pub set-up-is : tag ≡ 83 → record_of tag s ≡ call (set_up_of s)
-  set-up-is e = rw (eq-eqb tag 83 e)
+  pub set_up_is : tag ≡ 83 → record_of tag s ≡ call (set_up_of s)
+  set_up_is e = rw (eq-eqb tag 83 e)
 
   module _ (no-set-up : tag ≡ 83 → ⊥) where
     pub post_is : tag ≡ 80 → record_of tag s ≡ call (post s)

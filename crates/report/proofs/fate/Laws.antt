@@ -60,41 +60,41 @@ unfolding sum_to
 column_is sums stage s = omega arith
 
 module _ (sums : List ℕ) (u : Setup) (s : ℕ) where
-  pub fate-none : no_fate ≡ fate_to sums u s 0
+  pub fate_none : no_fate ≡ fate_to sums u s 0
   unfolding fate_to sum_to
-  fate-none = refl
+  fate_none = refl
 
-  fate-more : (k : ℕ) → add_fates (fate_to sums u s k) (stage_fate sums u s k) ≡ fate_to sums u s (suc k)
+  fate_more : (k : ℕ) → add_fates (fate_to sums u s k) (stage_fate sums u s k) ≡ fate_to sums u s (suc k)
   unfolding fate_to sum_to
-  fate-more k = refl
+  fate_more k = refl
 
-  pub fate-again : (k : ℕ) (acc fate : Fate) → acc ≡ fate_to sums u s k → fate ≡ stage_fate sums u s k → add_fates acc fate ≡ fate_to sums u s (k + 1)
-  fate-again k acc fate p q = ap₂ add_fates p q ∙ rw add-one (fate-more k)
+  pub fate_again : (k : ℕ) (acc fate : Fate) → acc ≡ fate_to sums u s k → fate ≡ stage_fate sums u s k → add_fates acc fate ≡ fate_to sums u s (k + 1)
+  fate_again k acc fate p q = ap₂ add_fates p q ∙ rw add-one (fate_more k)
 
   module _ (h : SoundSetup u) where
-    stage-weighs : (k : ℕ) → weigh (stage_fate sums u s k) ≡ column sums s k
-    stage-weighs k =
+    stage_weighs : (k : ℕ) → weigh (stage_fate sums u s k) ≡ column sums s k
+    stage_weighs k =
         weigh_fate (cells_of sums k s) (rates_of u k s) (get_or u.to_sewer k false) (get_or u.to_landfill k false) (h.rated (k * 8 + s)) ∙ column_is sums k s
 
-    fates-weigh : (n : ℕ) → weigh (fate_to sums u s n) ≡ sum_to n (column sums s)
+    fates_weigh : (n : ℕ) → weigh (fate_to sums u s n) ≡ sum_to n (column sums s)
     unfolding sum_to
-    fates-weigh zero = ap weigh (sym fate-none)
-    fates-weigh (suc n) = ap weigh (sym (fate-more n)) ∙ omega (arith, fates-weigh n, stage-weighs n)
+    fates_weigh zero = ap weigh (sym fate_none)
+    fates_weigh (suc n) = ap weigh (sym (fate_more n)) ∙ omega (arith, fates_weigh n, stage_weighs n)
 
     -- all that a report shows without the store is what the ledger holds
-    pub fate-total : weigh (fate_to sums u s 8) ≡ total sums s
-    fate-total = fates-weigh 8 ∙ sym (total_is sums s)
+    pub fate_total : weigh (fate_to sums u s 8) ≡ total sums s
+    fate_total = fates_weigh 8 ∙ sym (total_is sums s)
 
     -- the fates so far and one stage's more fit under what bounds the total
-    pub next-room : (k : ℕ) → k < 8 → (most : ℕ) → total sums s < most → (acc fate : Fate) → acc ≡ fate_to sums u s k → fate ≡ stage_fate sums u s k → weigh acc + weigh fate < most
-    next-room k hk most few acc fate p q =
-        fits (weigh acc) (weigh fate) (ap weigh p ∙ fates-weigh k) (ap weigh q ∙ stage-weighs k)
+    pub next_room : (k : ℕ) → k < 8 → (most : ℕ) → total sums s < most → (acc fate : Fate) → acc ≡ fate_to sums u s k → fate ≡ stage_fate sums u s k → weigh acc + weigh fate < most
+    next_room k hk most few acc fate p q =
+        fits (weigh acc) (weigh fate) (ap weigh p ∙ fates_weigh k) (ap weigh q ∙ stage_weighs k)
       where
         fits : (x y : ℕ) → x ≡ sum_to k (column sums s) → y ≡ column sums s k → x + y < most
         fits x y a b = omega (arith, total_is sums s, sum_again k (column sums s), sum_mono (k + 1) 8 (column sums s) (omega arith))
 
-    pub stage-room : (k : ℕ) → k < 8 → (most : ℕ) → total sums s < most → weigh (stage_fate sums u s k) < most
-    stage-room k hk most few = second (weigh (fate_to sums u s k)) (weigh (stage_fate sums u s k)) (next-room k hk most few (fate_to sums u s k) (stage_fate sums u s k) refl refl)
+    pub stage_room : (k : ℕ) → k < 8 → (most : ℕ) → total sums s < most → weigh (stage_fate sums u s k) < most
+    stage_room k hk most few = second (weigh (fate_to sums u s k)) (weigh (stage_fate sums u s k)) (next_room k hk most few (fate_to sums u s k) (stage_fate sums u s k) refl refl)
       where
         second : (x y : ℕ) → x + y < most → y < most
         second x y l = omega arith

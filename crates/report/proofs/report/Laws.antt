@@ -20,17 +20,17 @@ use Rattle.report.specs.declared.fate.Headings.{Headings}
 use Rattle.report.specs.declared.fate.Fate.{Fate}
 use Rattle.report.specs.declared.report.Filing.{Filing}
 use Rattle.report.specs.declared.report.Report.{Report}
-use Rattle.report.proofs.fate.Laws.{fate-total}
+use Rattle.report.proofs.fate.Laws.{fate_total}
 
 -- ---- putting a report together
 
 -- what a sound year holds of a substance fits 64 bits
 module _ (u : Setup) (y : Year) (h : SoundYear u y) (s : ℕ) (hs : s < 8) where
-  pub total-fits : total y.sums s < 2 ^ 64
-  total-fits = omega (arith, h.posts_few, h.bounded s hs)
+  pub total_fits : total y.sums s < 2 ^ 64
+  total_fits = omega (arith, h.posts_few, h.bounded s hs)
 
-  pub stored-fits : stored u y s < 2 ^ 64
-  stored-fits = omega (arith, h.posts_few, h.bounded s hs)
+  pub stored_fits : stored u y s < 2 ^ 64
+  stored_fits = omega (arith, h.posts_few, h.bounded s hs)
 
 pub report_is : (u : Setup) (y : Year) (s : ℕ) (due : Bool) (store : ℕ) (fate : Fate) (filed : Filing)
     → due ≡ due_in u y s → store ≡ stored u y s → fate ≡ fate_to y.sums u s 8 → filed ≡ filing_of due fate.headings
@@ -57,22 +57,22 @@ report_unknown b s u p h =
 
 module _ (b : Book) (h : Sound b) (s : ℕ) (hs : s < 8) where
   shown : weigh (report_at b s).fate ≡ total b.year.sums s
-  shown = fate-total b.year.sums b.setup s h.setup
+  shown = fate_total b.year.sums b.setup s h.setup
 
   -- what a report shows without the store is what was handled
-  pub report-handled : weigh (report_at b s).fate ≡ (report_at b s).handled
-  report-handled = shown ∙ sym (h.year.weighed s hs)
+  pub report_handled : weigh (report_at b s).fate ≡ (report_at b s).handled
+  report_handled = shown ∙ sym (h.year.weighed s hs)
 
   -- and with it what entered
-  pub report-entered : (report_at b s).store + weigh (report_at b s).fate ≡ in_year b.setup b.year s
-  report-entered = both (report_at b s).store (weigh (report_at b s).fate) (total b.year.sums s) shown
+  pub report_entered : (report_at b s).store + weigh (report_at b s).fate ≡ in_year b.setup b.year s
+  report_entered = both (report_at b s).store (weigh (report_at b s).fate) (total b.year.sums s) shown
     where
       both : (x y t : ℕ) → y ≡ t → x + y ≡ t + x
       both x y t e = omega arith
 
   -- so each heading is an amount of 64 bits
-  pub headings-fit : six_of (report_at b s).fate.headings < 2 ^ 64
-  headings-fit = part (report_at b s).fate (total b.year.sums s) shown (total-fits b.setup b.year h.year s hs)
+  pub headings_fit : six_of (report_at b s).fate.headings < 2 ^ 64
+  headings_fit = part (report_at b s).fate (total b.year.sums s) shown (total_fits b.setup b.year h.year s hs)
     where
       part : (x : Fate) (t : ℕ) → weigh x ≡ t → t < 2 ^ 64 → six_of x.headings < 2 ^ 64
       part x t e k = omega arith

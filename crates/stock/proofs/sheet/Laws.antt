@@ -80,14 +80,14 @@ fits_small (negsuc n) h = record { sfits = omega arith }
 
 -- what the machine subtracts, of two numbers that fit its signed ones
 module _ (grams store : ℕ) (hg : grams ≤ most) (hs : store ≤ most) where
-  machine-is : to_z w64 grams -ℤ to_z w64 store ≡ difference grams store
-  machine-is = ap₂ (λ x y. x -ℤ y) (to_z_pos w64 {n = grams} (omega arith)) (to_z_pos w64 {n = store} (omega arith)) ∙ less_is grams store
+  machine_is : to_z w64 grams -ℤ to_z w64 store ≡ difference grams store
+  machine_is = ap₂ (λ x y. x -ℤ y) (to_z_pos w64 {n = grams} (omega arith)) (to_z_pos w64 {n = store} (omega arith)) ∙ less_is grams store
 
-  pub less-fits : SFits w64 (to_z w64 grams -ℤ to_z w64 store)
-  less-fits = subst (SFits w64) (sym machine-is) (fits_small (difference grams store) (difference_small grams store hg hs))
+  pub less_fits : SFits w64 (to_z w64 grams -ℤ to_z w64 store)
+  less_fits = subst (SFits w64) (sym machine_is) (fits_small (difference grams store) (difference_small grams store hg hs))
 
-  pub less-read : to_z w64 (of_z w64 (to_z w64 grams -ℤ to_z w64 store)) ≡ difference grams store
-  less-read = to_z-of_z less-fits ∙ machine-is
+  pub less_read : to_z w64 (of_z w64 (to_z w64 grams -ℤ to_z w64 store)) ≡ difference grams store
+  less_read = to_z-of_z less_fits ∙ machine_is
 
 -- ---- a number without its sign
 
@@ -113,19 +113,19 @@ module _ (n : ℕ) (f : SFits w64 (negsuc n)) where
       go zero f = record { sfits = f.sfits }
       go (suc n) f = record { sfits = omega (arith, f.sfits) }
 
-  turned-is : turned (negsuc n) ≡ pos n
-  turned-is = ap (λ x. pos 0 -ℤ x) (to_z-of_z {w = w64} {z = one_up (negsuc n)} up_fits ∙ up_is) ∙ go n
+  turned_is : turned (negsuc n) ≡ pos n
+  turned_is = ap (λ x. pos 0 -ℤ x) (to_z-of_z {w = w64} {z = one_up (negsuc n)} up_fits ∙ up_is) ∙ go n
     where
       go : (n : ℕ) → pos 0 -ℤ suc_ℤ (negsuc n) ≡ pos n
       go zero = refl
       go (suc n) = +ℤ_idl (pos (suc n))
 
-  turned-fits : SFits w64 (turned (negsuc n))
-  turned-fits = subst (SFits w64) (sym turned-is) (record { sfits = f.sfits })
+  turned_fits : SFits w64 (turned (negsuc n))
+  turned_fits = subst (SFits w64) (sym turned_is) (record { sfits = f.sfits })
 
   -- and so it is read back
-  turned-read : again (turned (negsuc n)) ≡ pos n
-  turned-read = to_z-of_z {w = w64} {z = turned (negsuc n)} turned-fits ∙ turned-is
+  turned_read : again (turned (negsuc n)) ≡ pos n
+  turned_read = to_z-of_z {w = w64} {z = turned (negsuc n)} turned_fits ∙ turned_is
 
 -- what the code needs of a number below 0
 pub record Turned (z : ℤ) : Type 0 where
@@ -136,15 +136,15 @@ pub record Turned (z : ℤ) : Type 0 where
   pub is : nat_abs (again (turned z)) + 1 ≡ nat_abs z
 
 pub below_0 : (z : ℤ) → SFits w64 z → lt_z (again z) (pos 0) ≡ true → Turned z
-below_0 (pos n) f t = absurd (true≢false (sym t ∙ rw (to_z-of_z {w = w64} {z = pos n} f) (not-less n)))
+below_0 (pos n) f t = absurd (true≢false (sym t ∙ rw (to_z-of_z {w = w64} {z = pos n} f) (not_less n)))
   where
-    not-less : (n : ℕ) → ltb n 0 ≡ false
-    not-less n = le-ltb n 0 (omega arith)
+    not_less : (n : ℕ) → ltb n 0 ≡ false
+    not_less n = le-ltb n 0 (omega arith)
 below_0 (negsuc n) f t =
-    let r = turned-read n f in
+    let r = turned_read n f in
     record {
       up = up_fits n f;
-      fits = turned-fits n f;
+      fits = turned_fits n f;
       unsigned = rw r (tt, record { fits = omega (arith, f.sfits) });
       room = rw r (record { fits = omega (arith, f.sfits) });
       is = rw r (omega arith);
@@ -177,11 +177,11 @@ in_book b material u p h = omega (arith, same_count b u p)
 
 -- a material of the book has a store, which is small
 module _ (b : Book) (material : ℕ) (h : Sound b) (l : material < b.setup.outline.materials) where
-  pub has-store : material < 12
-  has-store = omega (arith, h.setup.materials_few)
+  pub has_store : material < 12
+  has_store = omega (arith, h.setup.materials_few)
 
-  pub store-small : (y : Year) → y ≡ b.year → get_or y.store material 0 ≤ most
-  store-small y q = rw q (omega (arith, h.year.posts_few, h.year.stores material has-store))
+  pub store_small : (y : Year) → y ≡ b.year → get_or y.store material 0 ≤ most
+  store_small y q = rw q (omega (arith, h.year.posts_few, h.year.stores material has_store))
 
 -- and a difference from it is the answer
 pub answered : (b : Book) (material grams : ℕ) (y : Year) (d : ℤ) → y ≡ b.year → grams ≤ most → material < b.setup.outline.materials
@@ -200,7 +200,7 @@ answers_within b material grams d h e =
     let l = ltb-true material b.setup.outline.materials both.1 in
     either_way d
     (subst (λ (z : ℤ). nat_abs z ≤ most) (sym t.1)
-    (difference_small grams (store_in b material) (leb-true grams most both.0) (store-small b material h l b.year refl)))
+    (difference_small grams (store_in b material) (leb-true grams most both.0) (store_small b material h l b.year refl)))
 
 -- a book's answer by its number of materials and, where the material is one of them, its store
 pub same_sheet : (b : Book) (materials : ℕ) (store_of : ℕ → ℕ) (material grams : ℕ) → b.setup.outline.materials ≡ materials

@@ -64,23 +64,23 @@ goes_behind done given read z y h same e m =
 -- ---- a part after it
 
 module _ (done room : ℕ) where
-  pub it-fails : (z : ℤ) → lt_z z (pos 0) ≡ true → Done Failed ≡ after_read done room z
-  it-fails (pos n) h = let g = ltb-true n 0 h in absurd (omega arith)
-  it-fails (negsuc n) h = refl
+  pub it_fails : (z : ℤ) → lt_z z (pos 0) ≡ true → Done Failed ≡ after_read done room z
+  it_fails (pos n) h = let g = ltb-true n 0 h in absurd (omega arith)
+  it_fails (negsuc n) h = refl
 
-  pub it-brings : (z : ℤ) → lt_z (pos 0) z ≡ true → progress_of (done + nat_abs z) room ≡ after_read done room z
-  it-brings (pos n) h = let g = ltb-true 0 n h in rw (ne_eqb n 0 (λ e. omega arith))
-  it-brings (negsuc n) h = absurd (true≢false (sym h))
+  pub it_brings : (z : ℤ) → lt_z (pos 0) z ≡ true → progress_of (done + nat_abs z) room ≡ after_read done room z
+  it_brings (pos n) h = let g = ltb-true 0 n h in rw (ne_eqb n 0 (λ e. omega arith))
+  it_brings (negsuc n) h = absurd (true≢false (sym h))
 
   module _ (z : ℤ) (p : lt_z z (pos 0) ≡ false) (q : lt_z (pos 0) z ≡ false) where
-    it-ends : Done (end_behind done) ≡ after_read done room z
-    it-ends = ap (after_read done room) (sym (is_zero z p q))
+    it_ends : Done (end_behind done) ≡ after_read done room z
+    it_ends = ap (after_read done room) (sym (is_zero z p q))
 
-    pub ends-short : 0 < done → Done (Short done) ≡ after_read done room z
-    ends-short h = rw (ne_eqb done 0 (λ e. omega arith)) at it-ends
+    pub ends_short : 0 < done → Done (Short done) ≡ after_read done room z
+    ends_short h = rw (ne_eqb done 0 (λ e. omega arith)) at it_ends
 
-    pub ends-here : done ≤ 0 → Done End ≡ after_read done room z
-    ends-here h = rw (eq-eqb done 0 (omega arith)) at it-ends
+    pub ends_here : done ≤ 0 → Done End ≡ after_read done room z
+    ends_here h = rw (eq-eqb done 0 (omega arith)) at it_ends
 
 -- ---- a part of so many bytes
 
@@ -114,14 +114,14 @@ module _ (done room : ℕ) (h : done < room) where
   stands_after (negsuc k) m = tt
 
   -- a read that the part goes on after brings at least one byte
-  pub fewer-to-read : (z : ℤ) → to_read room (after_read done room z) < room - done
-  fewer-to-read (pos k) = go (eqb k 0) (eqb (done + k) room) refl
+  pub fewer_to_read : (z : ℤ) → to_read room (after_read done room z) < room - done
+  fewer_to_read (pos k) = go (eqb k 0) (eqb (done + k) room) refl
     where
       go : (t u : Bool) → eqb k 0 ≡ t → to_read room (cond t (Done (end_behind done)) (cond u (Done Full) (More (done + k)))) < room - done
       go true u q = omega arith
       go false true q = omega arith
       go false false q = let y = eqb-false k 0 q in omega arith
-  fewer-to-read (negsuc k) = omega arith
+  fewer_to_read (negsuc k) = omega arith
 
 -- ---- parts
 

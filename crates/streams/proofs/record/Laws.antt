@@ -28,8 +28,8 @@ module _ (room : ℕ) (s : List ℕ) (p : Part) (h : Head) (e : p ≡ Full) (f :
   pub too_long : room < h.size → Over Malformed ≡ start_of room s p
   too_long l = rw (lt-leb h.size room l) at begins
 
-  pub in-room : h.size ≤ room → Begun h ≡ start_of room s p
-  in-room l = rw (le-leb h.size room l) at begins
+  pub in_room : h.size ≤ room → Begun h ≡ start_of room s p
+  in_room l = rw (le-leb h.size room l) at begins
 
 -- a record that begins has its whole head, and room
 pub begun : (room : ℕ) (s : List ℕ) (p : Part) (h : Head) → Begun h ≡ start_of room s p → (p ≡ Full) × (h.size ≤ room)

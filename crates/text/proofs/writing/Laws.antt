@@ -17,20 +17,20 @@ use Rattle.text.specs.declared.writing.Written.TheVariants.{At, NoRoom}
 -- ---- writes
 
 module _ (l : List ℕ) (at : ℕ) (a : List ℕ) where
-  head-length : at ≤ length l → length (take at l ++ a) ≡ at + length a
-  head-length h = length-append (take at l) a ∙ ap (λ (k : ℕ). k + length a) (length-take-le at l h)
+  head_length : at ≤ length l → length (take at l ++ a) ≡ at + length a
+  head_length h = length-append (take at l) a ∙ ap (λ (k : ℕ). k + length a) (length-take-le at l h)
 
-  pub written-length : Room l at a → length (written l at a) ≡ length l
+  pub written_length : Room l at a → length (written l at a) ≡ length l
   unfolding written
-  written-length h =
-      let e = head-length (omega arith) in
+  written_length h =
+      let e = head_length (omega arith) in
       omega (arith, length-append (take at l ++ a) (drop (at + length a) l), length-drop (at + length a) l)
 
   -- a write, and one at the place after it
   pub written_then : (b : List ℕ) → at ≤ length l → written (written l at a) (at + length a) b ≡ written l at (a ++ b)
   unfolding written
   written_then b h =
-      let e = head-length h in
+      let e = head_length h in
       let rest = drop (at + length a) l in
       ap (λ (x : List ℕ). x ++ b ++ drop (at + length a + length b) (take at l ++ a ++ rest)) (take_at (take at l ++ a) rest (at + length a) e)
       ∙ ap (λ (x : List ℕ). take at l ++ a ++ b ++ x)
@@ -56,7 +56,7 @@ room_first a b h = record { within = omega (arith, length-append a b) }
 
 pub room_then : {l m : List ℕ} {at r : ℕ} {a : List ℕ} (b : List ℕ) → Room l at (a ++ b) → Puts l at a m r → Room m r b
 room_then {l = l} {at = at} {a = a} b h p =
-    record { within = omega (arith, length-append a b, ap length p.text_in ∙ written-length l at a (room_first a b h)) }
+    record { within = omega (arith, length-append a b, ap length p.text_in ∙ written_length l at a (room_first a b h)) }
 
 pub puts_then : {l m n : List ℕ} {at r s : ℕ} {a b : List ℕ} → Room l at (a ++ b) → Puts l at a m r → Puts m r b n s → Puts l at (a ++ b) n s
 puts_then {l = l} {at = at} {r = r} {a = a} {b = b} h p q =
@@ -70,7 +70,7 @@ puts_then {l = l} {at = at} {r = r} {a = a} {b = b} h p q =
     }
 
 pub puts_length : {l m : List ℕ} {at r : ℕ} {a : List ℕ} → Room l at a → Puts l at a m r → length m ≡ length l
-puts_length {l} {at = at} {a = a} h p = ap length p.text_in ∙ written-length l at a h
+puts_length {l} {at = at} {a = a} h p = ap length p.text_in ∙ written_length l at a h
 
 pub puts_one : (l : List ℕ) (at x : ℕ) → Room l at (x ∷ []) → Puts l at (x ∷ []) (set l at x) (at + 1)
 puts_one l at x h = record { text_in = written_one l at x (omega (arith, h.within)); next = refl }
@@ -88,10 +88,10 @@ puts_as {l = l} {m = m} {at = at} {r = r} e p = subst (λ (x : List ℕ). Puts l
 -- ---- where so many bytes are free from the start on
 
 module _ (free : ℕ) (l a : List ℕ) where
-  pub tries-none : length l < free → Tries free l 0 a l NoRoom
+  pub tries_none : length l < free → Tries free l 0 a l NoRoom
   unfolding tried_in tried_answer
-  tries-none h = let k = lt-leb (0 + free) (length l) (omega arith) in record { text_in = rw k; answer = rw k }
+  tries_none h = let k = lt-leb (0 + free) (length l) (omega arith) in record { text_in = rw k; answer = rw k }
 
-  pub tries-at : (m : List ℕ) (r : ℕ) → free ≤ length l → Puts l 0 a m r → Tries free l 0 a m (At r)
+  pub tries_at : (m : List ℕ) (r : ℕ) → free ≤ length l → Puts l 0 a m r → Tries free l 0 a m (At r)
   unfolding tried_in tried_answer
-  tries-at m r h p = let k = le-leb (0 + free) (length l) (omega arith) in record { text_in = rw k p.text_in; answer = rw k (ap At p.next) }
+  tries_at m r h p = let k = le-leb (0 + free) (length l) (omega arith) in record { text_in = rw k p.text_in; answer = rw k (ap At p.next) }

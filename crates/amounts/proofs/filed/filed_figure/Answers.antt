@@ -2,7 +2,7 @@ use mathlib.Core.Path.{sym, subst}
 use Prim.Native.Nat.{ℕ, ◌/◌, ◌%◌, ◌≤◌}
 use native.Mathlib.Nat.{div-mul-le_self, div-lt_iff_lt-mul}
 use native.Mathlib.Omega.{arith}
-use Rattle.amounts.proofs.filed.Laws.{Step, step_is, room_up, half_is, filed-down, filed-up}
+use Rattle.amounts.proofs.filed.Laws.{Step, step_is, room_up, half_is, filed_down, filed_up}
 use Rattle.amounts.proofs.filed.filed_figure.Goals as goal
 
 pub nonzero_div-steps : goal.nonzero_div-steps
@@ -45,11 +45,11 @@ returns-then-amount-step c =
     let a : ℕ = c.args.amount in
     let s : ℕ = c.step_of-step.result in
     let facts : Step a s = subst (λ (k : ℕ). Step a k) (sym c.step_of-step.ensures) (step_is a c.ranges.amount.fits) in
-    filed-down a s facts c.step_of-step.ensures c.if-amount-step.true
+    filed_down a s facts c.step_of-step.ensures c.if-amount-step.true
 
 pub returns-else-amount-step : goal.returns-else-amount-step
 returns-else-amount-step c =
     let a : ℕ = c.args.amount in
     let s : ℕ = c.step_of-step.result in
     let facts : Step a s = subst (λ (k : ℕ). Step a k) (sym c.step_of-step.ensures) (step_is a c.ranges.amount.fits) in
-    filed-up a s facts c.step_of-step.ensures c.if-amount-step.false
+    filed_up a s facts c.step_of-step.ensures c.if-amount-step.false

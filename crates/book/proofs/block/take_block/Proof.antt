@@ -8,13 +8,13 @@ use Rattle.layout.specs.Holds.{answer}
 use Rattle.layout.specs.declared.holds.Holds.{Holds}
 use Rattle.layout.specs.declared.holds.Holds.TheVariants.{SetUp, Posts}
 use Rattle.plant.specs.declared.setup.Setup.{Setup}
-use Rattle.layout.proofs.frame.Laws.{Framed, held-framed, number_small}
+use Rattle.layout.proofs.frame.Laws.{Framed, held_framed, number_small}
 use Rattle.book.specs.Answer.{outcome}
 use Rattle.book.specs.Block.{on_setup, block_on}
 use Rattle.book.specs.Site.{Sound}
 use Rattle.book.specs.declared.answer.Answered.{Answered}
 use Rattle.book.proofs.answer.Laws.{sound_after}
-use Rattle.book.proofs.block.Laws.{not-framed, is_framed, block_sound}
+use Rattle.book.proofs.block.Laws.{not_framed, is_framed, block_sound}
 use borrow.Author.Rules.{rules}
 use Rattle.book.proofs.block.take_block.Statement.{statement}
 use Rattle.book.proofs.block.take_block.Tie as tie
@@ -45,7 +45,7 @@ is_held : (c : tie.After-known-told2) → let a = (start c).args in held_at a.b.
 is_held c = sym (frame c).read-frame.ensures ∙ ap answer c.before.h.given.1
 
 passes : (c : tie.After-known-told2) → let a = (start c).args in Framed a.b.blocks a.s.now
-passes c = let a = (start c).args in (held-framed a.b.blocks a.s.now (held c) (is_held c)).0
+passes c = let a = (start c).args in (held_framed a.b.blocks a.s.now (held c) (is_held c)).0
 
 -- a number of 16 bits
 few : (c : tie.After-known-told2) → (start c).args.b.blocks < 65536
@@ -67,7 +67,7 @@ returns c =
     let b = s.args.b in
     let bytes = s.args.s.now in
     let d = c.before.before.d.given in
-    let e = c.declined.ensures ∙ ap (outcome b) (sym (not-framed b bytes d.0.0.number (sym k.read-frame.ensures ∙ ap answer d.1))) in
+    let e = c.declined.ensures ∙ ap (outcome b) (sym (not_framed b bytes d.0.0.number (sym k.read-frame.ensures ∙ ap answer d.1))) in
     (e, sound_by k e)
 
 enum-known-h : tie.Need-enum-known-h

@@ -11,7 +11,7 @@ use Rattle.layout.specs.Frame.{held_at}
 use Rattle.layout.specs.Holds.{answer}
 use Rattle.layout.specs.declared.holds.Holds.{Holds}
 use Rattle.plant.specs.declared.setup.Setup.{Setup}
-use Rattle.layout.proofs.frame.Laws.{Framed, held-framed, number_small}
+use Rattle.layout.proofs.frame.Laws.{Framed, held_framed, number_small}
 use Rattle.book.specs.Block.{block_on}
 use Rattle.book.specs.Site.{Sound, book_with, fresh_year}
 use Rattle.book.specs.Steps.{year_with}
@@ -19,9 +19,9 @@ use Rattle.book.specs.Blocks.{ended}
 use Rattle.book.specs.declared.site.Book.{Book}
 use Rattle.book.specs.declared.site.Year.{Year}
 use Rattle.book.specs.declared.blocks.BlocksRead.{BlocksRead}
-use Rattle.book.proofs.block.Laws.{not-framed}
+use Rattle.book.proofs.block.Laws.{not_framed}
 use Rattle.book.proofs.site.Laws.{sound_fresh}
-use Rattle.book.proofs.blocks.Laws.{Upto, upto_none, upto_next, upto-stop, upto_all, end_after, end-inside, posts-refused, posts-entered, setup-refused, setup-entered}
+use Rattle.book.proofs.blocks.Laws.{Upto, upto_none, upto_next, upto_stop, upto_all, end_after, end_inside, posts_refused, posts_entered, setup_refused, setup_entered}
 use borrow.Author.Rules.{rules}
 use Rattle.book.proofs.blocks.take_blocks.Statement.{statement}
 use Rattle.book.proofs.blocks.take_blocks.Tie as tie
@@ -71,7 +71,7 @@ is_held : (c : tie.After-known-told2 invariant-loop decreases-loop) → let e = 
 is_held c = sym (frame c).read-frame.ensures ∙ ap answer c.before.h.given.1
 
 passes : (c : tie.After-known-told2 invariant-loop decreases-loop) → let e = ending (frame c) in Framed (at e).loop.blocks (bytes e)
-passes c = let e = ending (frame c) in (held-framed (at e).loop.blocks (bytes e) (held c) (is_held c)).0
+passes c = let e = ending (frame c) in (held_framed (at e).loop.blocks (bytes e) (held c) (is_held c)).0
 
 small : (c : tie.After-shared-slice-known2 invariant-loop decreases-loop) (i : ℕ) → get_or (bytes (ending (frame c.before))) i 0 < 256
 small c i = (c.shared-slice-known2.given i).fits
@@ -111,7 +111,7 @@ part-part-start : tie.Need-slice-bounds-part-start invariant-loop decreases-loop
 part-part-start c = omega (arith, ends_after c)
 
 part-part-end : tie.Need-slice-bounds-part-end invariant-loop decreases-loop
-part-part-end c = omega (arith, end-inside (start (at c)).args.journal.now (at c).loop.at c.part-end.result (inside c) c.part-end.ensures)
+part-part-end c = omega (arith, end_inside (start (at c)).args.journal.now (at c).loop.at c.part-end.result (inside c) c.part-end.ensures)
 
 read-frame-requires : tie.Need-read-frame-requires invariant-loop decreases-loop
 read-frame-requires c κs = search rules
@@ -130,8 +130,8 @@ returns c =
     let s = (start l).args.journal.now in
     let d = c.before.before.d.given in
     let n = d.0.0.number in
-    let no = not-framed (book l) (bytes e) n (sym k.read-frame.ensures ∙ ap answer d.1) in
-    (c.refused-at.ensures.0 ∙ ap ended (upto-stop s l.loop.at e.part-end.result (inside e) e.part-end.ensures (book l) n l.loop.inv no), c.refused-at.ensures.1)
+    let no = not_framed (book l) (bytes e) n (sym k.read-frame.ensures ∙ ap answer d.1) in
+    (c.refused-at.ensures.0 ∙ ap ended (upto_stop s l.loop.at e.part-end.result (inside e) e.part-end.ensures (book l) n l.loop.inv no), c.refused-at.ensures.1)
 
 enum-known-h : tie.Need-enum-known-h invariant-loop decreases-loop
 enum-known-h c = search rules
@@ -172,9 +172,9 @@ returns_2 c =
     let l = at e in
     let s = (start l).args.journal.now in
     let d = c.before.before.v.given.0.0 in
-    let no = posts-refused l.loop.setup (year l) l.loop.blocks (bytes e) (is_held t ∙ ap taken i.enum_told.given.1) r.run-body.result.verdict d (left r)
+    let no = posts_refused l.loop.setup (year l) l.loop.blocks (bytes e) (is_held t ∙ ap taken i.enum_told.given.1) r.run-body.result.verdict d (left r)
     r.run-body.ensures c.before.before.v.given.1 in
-    (c.refused-at2.ensures.0 ∙ ap ended (upto-stop s l.loop.at e.part-end.result (inside e) e.part-end.ensures (book l) d.number l.loop.inv no), c.refused-at2.ensures.1)
+    (c.refused-at2.ensures.0 ∙ ap ended (upto_stop s l.loop.at e.part-end.result (inside e) e.part-end.ensures (book l) d.number l.loop.inv no), c.refused-at2.ensures.1)
 
 enum-told-2 : tie.Need-enum-told-2 invariant-loop decreases-loop
 enum-told-2 c = search rules
@@ -200,9 +200,9 @@ returns-3 c =
     let l = at e in
     let s = (start l).args.journal.now in
     let d = c.before.before.v2.given.0.0 in
-    let no = setup-refused l.loop.setup (year l) l.loop.blocks (bytes e) h.held.given.0.0 (is_held t ∙ ap taken h.held.given.1)
+    let no = setup_refused l.loop.setup (year l) l.loop.blocks (bytes e) h.held.given.0.0 (is_held t ∙ ap taken h.held.given.1)
     r.set-up-by.result.verdict d r.set-up-by.result.setup r.set-up-by.ensures c.before.before.v2.given.1 in
-    (c.refused-at3.ensures.0 ∙ ap ended (upto-stop s l.loop.at e.part-end.result (inside e) e.part-end.ensures (book l) d.number l.loop.inv no), c.refused-at3.ensures.1)
+    (c.refused-at3.ensures.0 ∙ ap ended (upto_stop s l.loop.at e.part-end.result (inside e) e.part-end.ensures (book l) d.number l.loop.inv no), c.refused-at3.ensures.1)
 
 enum-told-3 : tie.Need-enum-told-3 invariant-loop decreases-loop
 enum-told-3 c = search rules
@@ -217,10 +217,10 @@ taken_block c =
     let m = c.match2 in
     ⊎_elim
     (λ w.
-    posts-entered l.loop.setup (year l) l.loop.blocks (bytes e) (is_held t ∙ ap taken w.1.given.1) _ _ w.5.ensures w.7.given.1
+    posts_entered l.loop.setup (year l) l.loop.blocks (bytes e) (is_held t ∙ ap taken w.1.given.1) _ _ w.5.ensures w.7.given.1
     ∙ same_book w.8 w.9 w.10 w.11 w.12 w.13)
     (λ w.
-    setup-entered l.loop.setup (year l) l.loop.blocks (bytes e) w.1.given.0.0 (is_held t ∙ ap taken w.1.given.1) _ _ w.3.ensures w.5.given.1
+    setup_entered l.loop.setup (year l) l.loop.blocks (bytes e) w.1.given.0.0 (is_held t ∙ ap taken w.1.given.1) _ _ w.3.ensures w.5.given.1
     ∙ same_book w.7 w.8 w.9 w.10 w.11 w.12)
     m.branch
 
@@ -230,7 +230,7 @@ add-blocks c = omega (arith, few c.before)
 loop-less : tie.Need-loop-smaller invariant-loop decreases-loop
 loop-less c =
     let e = ending (frame (opened c.before).before) in
-    omega (arith, ends_after e, end-inside (start (at e)).args.journal.now (at e).loop.at e.part-end.result (inside e) e.part-end.ensures)
+    omega (arith, ends_after e, end_inside (start (at e)).args.journal.now (at e).loop.at e.part-end.result (inside e) e.part-end.ensures)
 
 loop-again : tie.Need-loop-preserved invariant-loop decreases-loop
 loop-again c =

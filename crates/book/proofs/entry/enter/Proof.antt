@@ -5,7 +5,7 @@ use borrow.Author.Tests.{le-leb, lt-leb}
 use Rattle.post.specs.declared.moves.Move.{Move}
 use Rattle.post.specs.declared.moves.Move.TheVariants.{Received, Issued, Brought, Gone}
 use Rattle.book.specs.Steps.{Room}
-use Rattle.book.proofs.entry.Laws.{room-issued, room-brought, room_gone, room-close, left_out, put_in}
+use Rattle.book.proofs.entry.Laws.{room_issued, room_brought, room_gone, room_close, left_out, put_in}
 use borrow.Author.Rules.{rules}
 use Rattle.book.proofs.entry.enter.Statement.{statement}
 use Rattle.book.proofs.entry.enter.Tie as tie
@@ -72,7 +72,7 @@ element-write-store-2 : tie.Need-element-write-store-2
 element-write-store-2 c = let h = (issued c.before.before.before).fits in omega arith
 
 issue-requires : tie.Need-issue-requires
-issue-requires c κs = let k = c.before.before.before.before.before in room-issued _ _ _ _ _ _ _ (issued k)
+issue-requires c κs = let k = c.before.before.before.before.before in room_issued _ _ _ _ _ _ _ (issued k)
 
 enum-known-m-3 : tie.Need-enum-known-m-3
 enum-known-m-3 c = search rules
@@ -96,7 +96,7 @@ element-copy-out-sums : tie.Need-element-copy-out-sums
 element-copy-out-sums c = let h = (brought c).ranges in omega arith
 
 add-sums : tie.Need-overflow-add-sums
-add-sums c = omega (arith, (room-brought _ _ _ _ _ _ _ _ (brought c.before)).0)
+add-sums c = omega (arith, (room_brought _ _ _ _ _ _ _ _ (brought c.before)).0)
 
 mul-sums-2 : tie.Need-overflow-mul-sums-2
 mul-sums-2 c = let h = (brought c.before).fits in omega arith
@@ -111,7 +111,7 @@ element-copy-out-handled : tie.Need-element-copy-out-handled
 element-copy-out-handled c = let h = (brought c.before).fits in omega arith
 
 add-handled : tie.Need-overflow-add-handled
-add-handled c = omega (arith, (room-brought _ _ _ _ _ _ _ _ (brought c.before.before)).1)
+add-handled c = omega (arith, (room_brought _ _ _ _ _ _ _ _ (brought c.before.before)).1)
 
 mul-handled-2 : tie.Need-overflow-mul-handled-2
 mul-handled-2 c = let h = (brought c.before.before).fits in omega arith
@@ -163,7 +163,7 @@ enum_told c = search rules
 settle-requires : tie.Need-settle-requires
 settle-requires c κs =
     let s = c.before.before.before in
-    room-close _ _ _ _ (subst (Has s) c.before.enum_told.given.1 s.requires)
+    room_close _ _ _ _ (subst (Has s) c.before.enum_told.given.1 s.requires)
 
 returns-3 : tie.Need-returns-3
 returns-3 c = put_in _ _ _ _ _ _ _ _ _ _ c.before.before.m.given.1 refl refl refl refl

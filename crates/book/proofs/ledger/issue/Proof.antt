@@ -6,7 +6,7 @@ use borrow.Author.Rules.{rules}
 use Rattle.encoding.specs.Each.{put_to}
 use Rattle.kinds.specs.Account.{held}
 use Rattle.book.specs.Ledger.{cell_of, raised, brings}
-use Rattle.book.proofs.ledger.Laws.{own_place, raised-room, raised-again}
+use Rattle.book.proofs.ledger.Laws.{own_place, raised_room, raised_again}
 use Rattle.book.proofs.ledger.issue.Statement.{statement}
 use Rattle.book.proofs.ledger.issue.Tie as tie
 
@@ -62,7 +62,7 @@ add-sums : tie.Need-overflow-add-sums invariant-loop decreases-loop
 add-sums c =
     let l = c.before.before.before.before in
     let a = l.before.args in
-    let room = raised-room (cell_of held a.stage) (brings a.counted.now a.material a.grams) a.sums.now (own_place a.stage) l.loop.s l.loop.sums
+    let room = raised_room (cell_of held a.stage) (brings a.counted.now a.material a.grams) a.sums.now (own_place a.stage) l.loop.s l.loop.sums
     c.before.bring.result l.loop.invariant.1 c.before.bring.ensures 18446744073709551616 (l.before.requires.1.0 l.loop.s (omega arith)) in
     omega arith
 
@@ -82,7 +82,7 @@ add-handled : tie.Need-overflow-add-handled invariant-loop decreases-loop
 add-handled c =
     let l = c.before.before.before.before.before in
     let a = l.before.args in
-    let room = raised-room (λ k. k) (brings a.counted.now a.material a.grams) a.handled.now (λ i k e. e) l.loop.s l.loop.handled
+    let room = raised_room (λ k. k) (brings a.counted.now a.material a.grams) a.handled.now (λ i k e. e) l.loop.s l.loop.handled
     c.before.before.bring.result l.loop.invariant.2 c.before.before.bring.ensures 18446744073709551616 (l.before.requires.1.1 l.loop.s (omega arith)) in
     omega arith
 
@@ -106,8 +106,8 @@ loop-again c =
     let v = c.before.before.bring.result in
     let is = c.before.before.bring.ensures in (
       search rules,
-      raised-again (cell_of held a.stage) amount a.sums.now (own_place a.stage) l.loop.s l.loop.sums v l.loop.invariant.1 is,
-      raised-again (λ k. k) amount a.handled.now (λ i k e. e) l.loop.s l.loop.handled v l.loop.invariant.2 is,
+      raised_again (cell_of held a.stage) amount a.sums.now (own_place a.stage) l.loop.s l.loop.sums v l.loop.invariant.1 is,
+      raised_again (λ k. k) amount a.handled.now (λ i k e. e) l.loop.s l.loop.handled v l.loop.invariant.2 is,
     )
 
 returns : tie.Need-returns invariant-loop decreases-loop

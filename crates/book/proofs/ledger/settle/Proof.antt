@@ -4,7 +4,7 @@ use Prim.Native.Nat.{◌-◌, ◌≤◌, ◌<◌}
 use native.Mathlib.Omega.{arith}
 use borrow.Author.Rules.{rules}
 use Rattle.book.specs.Ledger.{settled}
-use Rattle.book.proofs.ledger.Laws.{closes_below, settled-more, settled-room}
+use Rattle.book.proofs.ledger.Laws.{closes_below, settled_more, settled_room}
 use Rattle.book.proofs.ledger.settle.Statement.{statement}
 use Rattle.book.proofs.ledger.settle.Tie as tie
 
@@ -51,7 +51,7 @@ shift-requires c κs =
     let l = t.before.before.before in
     let pre = l.before.requires in (
       (omega arith, omega (arith, small t), omega arith),
-      settled-room l.before.args.sums.now l.before.args.to-water.now l.loop.pair l.loop.sums t.closes-to.result 18446744073709551616 l.loop.invariant.1
+      settled_room l.before.args.sums.now l.before.args.to-water.now l.loop.pair l.loop.sums t.closes-to.result 18446744073709551616 l.loop.invariant.1
           (omega arith) (small t) pre.1 pre.0,
     )
 
@@ -67,7 +67,7 @@ loop-again c =
     let l = t.before.before.before in (
       search rules,
       c.shift.ensures
-          ∙ settled-more l.before.args.sums.now l.before.args.to-water.now l.loop.pair l.loop.sums t.closes-to.result l.loop.invariant.1 t.closes-to.ensures,
+          ∙ settled_more l.before.args.sums.now l.before.args.to-water.now l.loop.pair l.loop.sums t.closes-to.result l.loop.invariant.1 t.closes-to.ensures,
     )
 
 returns : tie.Need-returns invariant-loop decreases-loop

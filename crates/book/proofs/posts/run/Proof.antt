@@ -13,7 +13,7 @@ use Rattle.book.specs.Entry.{is_there}
 use Rattle.book.specs.Posts.{taken_to}
 use Rattle.book.specs.Steps.{year_with}
 use Rattle.book.specs.declared.site.Year.{Year}
-use Rattle.book.proofs.posts.Laws.{Turn, tried, turn-declined, turn-short, turn-room, turn-few, turn-entered, none_yet, admitted_at, part_fits, ran_declined, ran_taken}
+use Rattle.book.proofs.posts.Laws.{Turn, tried, turn_declined, turn_short, turn_room, turn_few, turn_entered, none_yet, admitted_at, part_fits, ran_declined, ran_taken}
 use borrow.Author.Rules.{rules}
 use Rattle.book.proofs.posts.run.Statement.{statement}
 use Rattle.book.proofs.posts.run.Tie as tie
@@ -110,13 +110,13 @@ returns c =
     let k = c.before.before.before in
     let d = c.before.d.given.0.0 in
     ran_declined _ d.number _
-    (turn-declined (turn k) _ (omega (arith, (inside k).loop-test)) d.number (sym (was_tried k) ∙ ap moves.answer c.before.d.given.1))
+    (turn_declined (turn k) _ (omega (arith, (inside k).loop-test)) d.number (sym (was_tried k) ∙ ap moves.answer c.before.d.given.1))
 
 enum-known-m : tie.Need-enum-known-m invariant-loop decreases-loop
 enum-known-m c = search rules
 
 enter-requires : tie.Need-enter-requires invariant-loop decreases-loop
-enter-requires c κs = let k = c.before.before.before.before.before in turn-room (turn (at k)) _ (was_known k)
+enter-requires c κs = let k = c.before.before.before.before.before in turn_room (turn (at k)) _ (was_known k)
 
 returns_2 : tie.Need-returns-2 invariant-loop decreases-loop
 returns_2 c =
@@ -124,10 +124,10 @@ returns_2 c =
     let k = known e in
     let l = (inside (at k)).before.loop in
     ran_declined _ 11 _
-    (turn-short (turn (at k)) _ (omega (arith, (inside (at k)).loop-test)) _ (was_known k) (misses {t = is_there l.store l.sums (move k)} e.enter.ensures.there c.if1.true))
+    (turn_short (turn (at k)) _ (omega (arith, (inside (at k)).loop-test)) _ (was_known k) (misses {t = is_there l.store l.sums (move k)} e.enter.ensures.there c.if1.true))
 
 add-count : tie.Need-overflow-add-count invariant-loop decreases-loop
-add-count c = let k = known c.before in omega (arith, turn-few (turn (at k)) _ (was_known k))
+add-count c = let k = known c.before in omega (arith, turn_few (turn (at k)) _ (was_known k))
 
 closes-requires : tie.Need-closes-requires invariant-loop decreases-loop
 closes-requires c κs = search rules
@@ -142,7 +142,7 @@ loop-again : tie.Need-loop-preserved invariant-loop decreases-loop
 loop-again c =
     let e = c.before.before in
     let k = known e in
-    (omega (arith, (inside (at k)).loop-test), turn-entered (turn (at k)) _ (was_known k) _ _ _ _ _ e.enter.ensures (not-false _ c.before.if1.false) c.closes.ensures)
+    (omega (arith, (inside (at k)).loop-test), turn_entered (turn (at k)) _ (was_known k) _ _ _ _ _ e.enter.ensures (not-false _ c.before.if1.false) c.closes.ensures)
 
 returns-3 : tie.Need-returns-3 invariant-loop decreases-loop
 returns-3 c =

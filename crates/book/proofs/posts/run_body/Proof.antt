@@ -6,8 +6,8 @@ use Rattle.layout.specs.Posts.{own_checks}
 use Rattle.layout.proofs.posts.Laws.{Owned, owned}
 use Rattle.book.specs.Steps.{year_with}
 use Rattle.book.specs.declared.site.Year.{Year}
-use Rattle.plant.proofs.Ended.{table-declined, table-accepted}
-use Rattle.book.proofs.posts.Laws.{own, own-declined, own-taken, ran_declined, ran_same}
+use Rattle.plant.proofs.Ended.{table_declined, table_accepted}
+use Rattle.book.proofs.posts.Laws.{own, own_declined, own_taken, ran_declined, ran_same}
 use borrow.Author.Rules.{rules}
 use Rattle.book.proofs.posts.run_body.Statement.{statement}
 use Rattle.book.proofs.posts.run_body.Tie as tie
@@ -32,7 +32,7 @@ passes : (c : tie.After-enum-told) → let s = start c in let a = s.args in
 passes c =
     let s = start c in
     let a = s.args in
-    let e = table-accepted (rows s) _ a.count c.before.before.check-posts.ensures c.enum_told.given.1 in
+    let e = table_accepted (rows s) _ a.count c.before.before.check-posts.ensures c.enum_told.given.1 in
     ((owned a.setup.outline a.closed a.count a.body.now a.count a.count e).0, e)
 
 check-posts-requires : tie.Need-check-posts-requires
@@ -47,8 +47,8 @@ returns c =
     let s = k.before.before in
     let d = c.before.d.given.0.0 in
     ran_declined _ d.number _
-    (own-declined s.args.setup (given s) s.args.count s.args.body.now d.number
-    (table-declined (rows s) _ s.args.count k.check-posts.ensures d c.before.d.given.1))
+    (own_declined s.args.setup (given s) s.args.count s.args.body.now d.number
+    (table_declined (rows s) _ s.args.count k.check-posts.ensures d c.before.d.given.1))
 
 enum_told : tie.Need-enum-told
 enum_told c = search rules
@@ -63,7 +63,7 @@ returns_2 : tie.Need-returns-2
 returns_2 c =
     let k = c.before.before.before.before in
     let s = start k in
-    ran_same c.run.result.verdict (left c) (sym (own-taken s.args.setup (given s) s.args.count s.args.body.now (passes k).1)) c.run.ensures
+    ran_same c.run.result.verdict (left c) (sym (own_taken s.args.setup (given s) s.args.count s.args.body.now (passes k).1)) c.run.ensures
 
 pub run-body-spec : {M : Type 1} → statement M
 run-body-spec =

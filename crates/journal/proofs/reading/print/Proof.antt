@@ -1,5 +1,5 @@
 use borrow.Author.Rules.{rules}
-use Rattle.journal.proofs.reading.Laws.{prints-return, prints-refused}
+use Rattle.journal.proofs.reading.Laws.{prints_return, prints_refused}
 use Rattle.journal.proofs.reading.print.Statement.{statement}
 use Rattle.journal.proofs.reading.print.Tie as tie
 
@@ -24,7 +24,7 @@ same_length c = search rules
 returns : tie.Need-returns
 returns c =
     let t = c.before.before in
-    prints-return _ _ _ _ t.before.before.enum_told.given.1 t.print-return.ensures
+    prints_return _ _ _ _ t.before.before.enum_told.given.1 t.print-return.ensures
 
 same_length_2 : tie.Need-same-length-2
 same_length_2 c = search rules
@@ -33,7 +33,7 @@ returns_2 : tie.Need-returns-2
 returns_2 c =
     let t = c.before.before in
     let n = t.before.before in
-    prints-refused _ _ _ _ _ _ n.before.before.stopped.given.1 n.block-number.ensures t.print-refused.ensures
+    prints_refused _ _ _ _ _ _ n.before.before.stopped.given.1 n.block-number.ensures t.print-refused.ensures
 
 pub print-spec : {M : Type 1} → statement M
 print-spec =

@@ -1,5 +1,5 @@
 use borrow.Author.Rules.{rules}
-use Rattle.journal.proofs.reading.Laws.{journal-return, journal_refused}
+use Rattle.journal.proofs.reading.Laws.{journal_return, journal_refused}
 use Rattle.journal.proofs.reading.print_journal.Statement.{statement}
 use Rattle.journal.proofs.reading.print_journal.Tie as tie
 
@@ -27,7 +27,7 @@ returns c =
     let told = t.before.before in
     let w = told.before.before.before in
     let s = w.before.before.before in
-    journal-return _ _ _ s.args.journal.now w.take-blocks.result w.take-blocks.ensures.0 told.enum_told.given.1 t.print-return.ensures
+    journal_return _ _ _ s.args.journal.now w.take-blocks.result w.take-blocks.ensures.0 told.enum_told.given.1 t.print-return.ensures
 
 same_length_2 : tie.Need-same-length-2
 same_length_2 c = search rules

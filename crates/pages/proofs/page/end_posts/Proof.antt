@@ -8,7 +8,7 @@ use Rattle.pages.specs.Page.{Page, page_of, ended, Answers}
 use Rattle.pages.specs.Tally as tally
 use Rattle.pages.specs.Tally.{Counts}
 use Rattle.pages.specs.declared.page.Taken.{Taken}
-use Rattle.pages.proofs.page.Laws.{end-nothing, end-room, end-answers}
+use Rattle.pages.proofs.page.Laws.{end_nothing, end_room, end_answers}
 use borrow.Author.Rules.{rules}
 use Rattle.pages.proofs.page.end_posts.Statement.{statement}
 use Rattle.pages.proofs.page.end_posts.Tie as tie
@@ -31,7 +31,7 @@ counts c =
     subst (λ (v : Verdict). Counts (length a.buffer.now) a.d.tally (taken (tally.ended a.d.tally)) v e.result.tally) e.ensures.verdict e.ensures
 
 returns : tie.Need-returns
-returns c = let s = c.before.before.before.before in end-nothing (page s) s.requires c.if1.true
+returns c = let s = c.before.before.before.before in end_nothing (page s) s.requires c.if1.true
 
 end-requires : tie.Need-end-requires
 end-requires c κs = c.before.before.before.before.requires.counted
@@ -40,7 +40,7 @@ cast-finish : tie.Need-overflow-cast-finish
 cast-finish c = let s = start c in omega (arith, s.pre.counted.few)
 
 finish-requires : tie.Need-finish-requires
-finish-requires c κs = let s = start c in end-room (page s) s.pre (waits c)
+finish-requires c κs = let s = start c in end_room (page s) s.pre (waits c)
 
 same_length : tie.Need-same-length
 same_length c = search rules
@@ -51,7 +51,7 @@ returns_2 c =
     let k = r.before in
     let s = start k in
     subst (λ (x : Taken). Answers (page s) (taken (ended (page s))) x.verdict (page_of r.finish.new.0 x.filled x.draft)) (sym r.finish.ensures.0)
-    (end-answers (page s) s.pre r.finish.new.0 _ (waits k) (counts k) r.finish.ensures.1 (same_length c))
+    (end_answers (page s) s.pre r.finish.new.0 _ (waits k) (counts k) r.finish.ensures.1 (same_length c))
 
 pub end-posts-spec : {M : Type 1} → statement M
 end-posts-spec =

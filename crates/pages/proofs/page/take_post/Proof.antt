@@ -7,7 +7,7 @@ use Rattle.pages.specs.Page as pages
 use Rattle.pages.specs.Page.{Page, page_of, Answers}
 use Rattle.pages.specs.Tally.{post_on, Counts}
 use Rattle.pages.specs.declared.page.Taken.{Taken}
-use Rattle.pages.proofs.page.Laws.{post-refused, post-room, tenth-answers, other-answers}
+use Rattle.pages.proofs.page.Laws.{post_refused, post_room, tenth_answers, other_answers}
 use borrow.Author.Rules.{rules}
 use Rattle.pages.proofs.page.take_post.Statement.{statement}
 use Rattle.pages.proofs.page.take_post.Tie as tie
@@ -43,7 +43,7 @@ returns c =
     let a = s.args in
     let r = k.post.result in
     let room = length a.buffer.now in
-    post-refused (page s) s.requires a.post.now c.before.v.given.0.0 r.tally
+    post_refused (page s) s.requires a.post.now c.before.v.given.0.0 r.tally
     (subst (λ (v : Verdict). Counts room a.d.tally (post_on room a.d.tally a.post.now) v r.tally) c.before.v.given.1 k.post.ensures)
 
 enum_told : tie.Need-enum-told
@@ -62,7 +62,7 @@ put-requires : tie.Need-put-requires
 put-requires c κs = search rules
 
 finish-requires : tie.Need-finish-requires
-finish-requires c κs = let k = told c in let s = start k in post-room (page s) s.pre s.args.post.now _ (counts k)
+finish-requires c κs = let k = told c in let s = start k in post_room (page s) s.pre s.args.post.now _ (counts k)
 
 same_length : tie.Need-same-length
 same_length c = search rules
@@ -74,7 +74,7 @@ returns_2 c =
     let s = start k in
     let w = r.before.before.before.before.before in
     subst (λ (x : Taken). Answers (page s) (pages.post_on (page s) s.args.post.now) x.verdict (page_of r.finish.new.0 x.filled x.draft)) (sym r.finish.ensures.0)
-    (tenth-answers (page s) s.pre s.args.post.now k.before.before.post.result.tally (counts k) r.finish.new.0 w.put.new.0
+    (tenth_answers (page s) s.pre s.args.post.now k.before.before.post.result.tally (counts k) r.finish.new.0 w.put.new.0
     r.before.before.if1.true w.put.ensures r.finish.ensures.1 (same_length c))
 
 returns-3 : tie.Need-returns-3
@@ -82,7 +82,7 @@ returns-3 c =
     let w = c.before.before.before in
     let k = w.before.before.before.before.before in
     let s = start k in
-    other-answers (page s) s.pre s.args.post.now k.before.before.post.result.tally (counts k) w.put.new.0 c.if1.false w.put.ensures
+    other_answers (page s) s.pre s.args.post.now k.before.before.post.result.tally (counts k) w.put.new.0 c.if1.false w.put.ensures
 
 pub take-post-spec : {M : Type 1} → statement M
 take-post-spec =

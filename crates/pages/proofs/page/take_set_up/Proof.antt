@@ -4,7 +4,7 @@ use Rattle.layout.specs.declared.verdict.Verdict.{Verdict}
 use Rattle.layout.specs.declared.verdict.Verdict.TheVariants.{Accepted}
 use Rattle.pages.specs.Page.{Page, page_of}
 use Rattle.pages.specs.Tally.{set_up_on, Counts}
-use Rattle.pages.proofs.page.Laws.{set-up-refused, set-up-room, set-up-answers}
+use Rattle.pages.proofs.page.Laws.{set_up_refused, set_up_room, set_up_answers}
 use borrow.Author.Rules.{rules}
 use Rattle.pages.proofs.page.take_set_up.Statement.{statement}
 use Rattle.pages.proofs.page.take_set_up.Tie as tie
@@ -38,7 +38,7 @@ returns c =
     let a = s.args in
     let r = k.set_up.result in
     let room = length a.buffer.now in
-    set-up-refused (page s) s.requires a.kind a.count a.body.now c.before.v.given.0.0 r.tally
+    set_up_refused (page s) s.requires a.kind a.count a.body.now c.before.v.given.0.0 r.tally
     (subst (λ (v : Verdict). Counts room a.d.tally (set_up_on room a.d.tally a.kind a.count a.body.now) v r.tally) c.before.v.given.1 k.set_up.ensures)
 
 enum_told : tie.Need-enum-told
@@ -51,7 +51,7 @@ put-requires : tie.Need-put-requires
 put-requires c κs = search rules
 
 put-block-requires : tie.Need-put-block-requires
-put-block-requires c κs = let k = c.before.before.before.before in let s = start k in set-up-room (page s) s.pre s.args.kind s.args.count s.args.body.now _ (counts k)
+put-block-requires c κs = let k = c.before.before.before.before in let s = start k in set_up_room (page s) s.pre s.args.kind s.args.count s.args.body.now _ (counts k)
 
 same_length : tie.Need-same-length
 same_length c = search rules
@@ -62,7 +62,7 @@ returns_2 c =
     let w = p.before.before.before in
     let k = w.before.before in
     let s = start k in
-    set-up-answers (page s) s.pre s.args.kind s.args.count s.args.body.now k.before.before.set_up.result.tally (counts k)
+    set_up_answers (page s) s.pre s.args.kind s.args.count s.args.body.now k.before.before.set_up.result.tally (counts k)
     w.put.new.0 _ p.put-block.result w.put.ensures p.put-block.ensures.0 p.put-block.ensures.1 (same_length c)
 
 pub take-set-up-spec : {M : Type 1} → statement M

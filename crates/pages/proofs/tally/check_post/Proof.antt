@@ -3,7 +3,7 @@ use mathlib.Core.Bool.{Bool, cond}
 use Rattle.layout.proofs.verdict.Laws.{holds, misses}
 use Rattle.layout.specs.Verdict.{verdict_of}
 use Rattle.layout.specs.declared.verdict.Verdict.TheVariants.{Accepted, Declined}
-use Rattle.pages.proofs.tally.Laws.{out-of-turn, not-formed, formed}
+use Rattle.pages.proofs.tally.Laws.{out_of_turn_lem, not_formed, formed}
 use borrow.Author.Rules.{rules}
 use Rattle.pages.proofs.tally.check_post.Statement.{statement}
 use Rattle.pages.proofs.tally.check_post.Tie as tie
@@ -12,7 +12,7 @@ may-post-requires : tie.Need-may-post-requires
 may-post-requires c κs = search rules
 
 returns : tie.Need-returns
-returns c = let a = c.before.before.before.before.args in ap verdict_of (sym (out-of-turn a.room a.t a.s.now (misses c.before.may-post.ensures c.if1.true)))
+returns c = let a = c.before.before.before.before.args in ap verdict_of (sym (out_of_turn_lem a.room a.t a.s.now (misses c.before.may-post.ensures c.if1.true)))
 
 check-post-requires : tie.Need-check-post-requires
 check-post-requires c κs = search rules
@@ -24,7 +24,7 @@ returns_2 : tie.Need-returns-2
 returns_2 c =
     let k = c.before.before.before in
     let a = k.before.before.before.before.before.args in
-    not-formed a.room a.t a.s.now (holds k.before.before.may-post.ensures k.before.if1.false) c.before.d.given.0.0
+    not_formed a.room a.t a.s.now (holds k.before.before.may-post.ensures k.before.if1.false) c.before.d.given.0.0
     (sym c.before.d.given.1 ∙ k.check-post.ensures)
 
 enum_told : tie.Need-enum-told

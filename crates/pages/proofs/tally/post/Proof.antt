@@ -4,7 +4,7 @@ use Rattle.layout.specs.Verdict.{verdict_of}
 use Rattle.layout.specs.declared.verdict.Verdict.TheVariants.{Accepted}
 use Rattle.pages.specs.Tally.{post_answer, post_on, Counts}
 use Rattle.pages.specs.declared.tally.Counted.{Counted}
-use Rattle.pages.proofs.tally.Laws.{refused, post-declines, post-begun, post-finishes, post-joins}
+use Rattle.pages.proofs.tally.Laws.{refused, post_declines, post_begun, post_finishes, post_joins}
 use borrow.Author.Rules.{rules}
 use Rattle.pages.proofs.tally.post.Statement.{statement}
 use Rattle.pages.proofs.tally.post.Tie as tie
@@ -31,20 +31,20 @@ returns c =
     let s = k.before.before in
     let a = s.args in
     refused a.room a.t (post_on a.room a.t a.s.now) e.0.0 c.refused.result s.requires
-    (post-declines a.room a.t a.s.now e.0.0 (sym e.1 ∙ k.check-post.ensures)) c.refused.ensures
+    (post_declines a.room a.t a.s.now e.0.0 (sym e.1 ∙ k.check-post.ensures)) c.refused.ensures
 
 enum_told : tie.Need-enum-told
 enum_told c = search rules
 
 finish-requires : tie.Need-finish-requires
-finish-requires c κs = let k = c.before.before in (post-begun _ _ (start k).requires _ (was_accepted k)).number
+finish-requires c κs = let k = c.before.before in (post_begun _ _ (start k).requires _ (was_accepted k)).number
 
 returns_2 : tie.Need-returns-2
 returns_2 c =
     let k = c.before.before.before in
     let a = (start k).args in
     subst (λ (x : Counted). Counts a.room a.t (post_on a.room a.t a.s.now) x.verdict x.tally) (sym c.finish.ensures)
-    (post-finishes a.room a.t (start k).requires a.s.now (was_accepted k) c.before.if1.true)
+    (post_finishes a.room a.t (start k).requires a.s.now (was_accepted k) c.before.if1.true)
 
 add-t9 : tie.Need-overflow-add-t9
 add-t9 c = omega (arith, (start c.before.before.before.before).requires.few)
@@ -53,7 +53,7 @@ returns-3 : tie.Need-returns-3
 returns-3 c =
     let k = c.before.before.before.before in
     let a = (start k).args in
-    post-joins a.room a.t (start k).requires a.s.now (was_accepted k) c.before.before.if1.false
+    post_joins a.room a.t (start k).requires a.s.now (was_accepted k) c.before.before.if1.false
 
 pub post-spec : {M : Type 1} → statement M
 post-spec =

@@ -67,10 +67,10 @@ returns-3 c =
     let m = c.before.before in
     let k = m.before.before in
     let a = (start k).args in
-    let r = c.set-up-part.result in
+    let r = c.set_up_part.result in
     subst (λ (x : Answer Tally). Counts a.room a.t x r.verdict r.tally)
     (sym (of_part a.room a.t a.kind a.count a.body.now m.h2.given.0.0 (kind_holds k ∙ ap taken m.h2.given.1)))
-    c.set-up-part.ensures
+    c.set_up_part.ensures
 
 pub set-up-spec : {M : Type 1} → statement M
 set-up-spec =

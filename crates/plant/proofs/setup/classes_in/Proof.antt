@@ -4,7 +4,7 @@ use Prim.Native.Nat.{◌+◌, ◌*◌, ◌≤◌, ◌-◌}
 use native.Mathlib.Omega.{arith}
 use borrow.Author.Rules.{rules}
 use Rattle.encoding.specs.Each.{put_to}
-use Rattle.plant.proofs.setup.Laws.{filled, filled-again, filled-done}
+use Rattle.plant.proofs.setup.Laws.{filled, filled_again, filled_done}
 use Rattle.encoding.proofs.bytes.Laws.{one}
 use Rattle.plant.proofs.setup.classes_in.Statement.{statement}
 use Rattle.plant.proofs.setup.classes_in.Tie as tie
@@ -41,12 +41,12 @@ loop-again : tie.Need-loop-preserved invariant-loop decreases-loop
 loop-again c =
     let k = c.before.before in
     let body = k.before.before.args.body.now in
-    (omega arith, filled-again 1 8 18 body k.loop.i k.loop.out k.loop.invariant.1 c.byte_at.result (c.byte_at.ensures ∙ sym (one (18 + k.loop.i * 1) body)))
+    (omega arith, filled_again 1 8 18 body k.loop.i k.loop.out k.loop.invariant.1 c.byte_at.result (c.byte_at.ensures ∙ sym (one (18 + k.loop.i * 1) body)))
 
 returns : tie.Need-returns invariant-loop decreases-loop
 returns c =
     let k = c.before in
-    filled-done 1 8 18 k.before.before.args.body.now k.loop.i k.loop.out k.loop.invariant.1 k.loop.invariant.0 c.loop-test.false
+    filled_done 1 8 18 k.before.before.args.body.now k.loop.i k.loop.out k.loop.invariant.1 k.loop.invariant.0 c.loop-test.false
 
 pub classes-in-spec : {M : Type 1} → statement M
 classes-in-spec =

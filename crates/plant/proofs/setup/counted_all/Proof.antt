@@ -8,7 +8,7 @@ use borrow.Author.Rules.{rules}
 use Rattle.amounts.specs.Content.{counted_of}
 use Rattle.amounts.specs.Decline.{value_or}
 use Rattle.encoding.specs.Each.{put_to}
-use Rattle.encoding.proofs.Each.{put-again, fill_done}
+use Rattle.encoding.proofs.Each.{put_again, fill_done}
 use Rattle.plant.proofs.setup.counted_all.Statement.{statement}
 use Rattle.plant.proofs.setup.counted_all.Tie as tie
 
@@ -54,7 +54,7 @@ loop-again c =
     let k = c.before.before.before.before in
     let a = k.before.args in (
       omega arith,
-      put-again (λ j. j) (counts a.classes.now a.contents.now) (replicate 96 0) k.loop.i k.loop.out c.counted-or-none.result k.loop.invariant.1 c.counted-or-none.ensures,
+      put_again (λ j. j) (counts a.classes.now a.contents.now) (replicate 96 0) k.loop.i k.loop.out c.counted-or-none.result k.loop.invariant.1 c.counted-or-none.ensures,
     )
 
 returns : tie.Need-returns invariant-loop decreases-loop

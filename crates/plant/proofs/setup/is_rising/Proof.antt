@@ -7,7 +7,7 @@ use borrow.Author.Rules.{rules}
 use Rattle.encoding.specs.Each.{all_to}
 use Rattle.plant.specs.Setup.{before}
 use Rattle.encoding.proofs.Each.{all_done}
-use Rattle.plant.proofs.setup.Laws.{rises, falls, rises-again}
+use Rattle.plant.proofs.setup.Laws.{rises, falls, rises_again}
 use Rattle.plant.proofs.setup.is_rising.Statement.{statement}
 use Rattle.plant.proofs.setup.is_rising.Tie as tie
 
@@ -43,7 +43,7 @@ loop-again : tie.Need-loop-preserved invariant-loop decreases-loop
 loop-again c =
     let k = c.before.before.before in
     let a = k.before.before.args in
-    let h = rises-again a.n a.s.now k.loop.i k.loop.last c.before.le16.result k.loop.invariant.1 c.before.le16.ensures k.loop.invariant.2 c.if1.false in
+    let h = rises_again a.n a.s.now k.loop.i k.loop.last c.before.le16.result k.loop.invariant.1 c.before.le16.ensures k.loop.invariant.2 c.if1.false in
     (search rules, h.0, h.1)
 
 returns_2 : tie.Need-returns-2 invariant-loop decreases-loop

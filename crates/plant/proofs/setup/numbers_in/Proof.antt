@@ -4,7 +4,7 @@ use Prim.Native.Nat.{◌≤◌, ◌-◌}
 use native.Mathlib.Omega.{arith}
 use borrow.Author.Rules.{rules}
 use Rattle.encoding.specs.Each.{put_to}
-use Rattle.plant.proofs.setup.Laws.{filled, filled-again, filled-done}
+use Rattle.plant.proofs.setup.Laws.{filled, filled_again, filled_done}
 use Rattle.plant.proofs.setup.numbers_in.Statement.{statement}
 use Rattle.plant.proofs.setup.numbers_in.Tie as tie
 
@@ -43,12 +43,12 @@ loop-again : tie.Need-loop-preserved invariant-loop decreases-loop
 loop-again c =
     let k = c.before.before in
     let body = k.before.before.args.body.now in
-    (omega arith, filled-again 2 8 2 body k.loop.i k.loop.out k.loop.invariant.1 c.le16.result c.le16.ensures)
+    (omega arith, filled_again 2 8 2 body k.loop.i k.loop.out k.loop.invariant.1 c.le16.result c.le16.ensures)
 
 returns : tie.Need-returns invariant-loop decreases-loop
 returns c =
     let k = c.before in
-    filled-done 2 8 2 k.before.before.args.body.now k.loop.i k.loop.out k.loop.invariant.1 k.loop.invariant.0 c.loop-test.false
+    filled_done 2 8 2 k.before.before.args.body.now k.loop.i k.loop.out k.loop.invariant.1 k.loop.invariant.0 c.loop-test.false
 
 pub numbers-in-spec : {M : Type 1} → statement M
 numbers-in-spec =

@@ -1,5 +1,5 @@
 use Rattle.plant.specs.Setup.{setup_checks, setup_of, set_up_on}
-use Rattle.plant.proofs.Ended.{table-accepted, end_declined, end_accepted}
+use Rattle.plant.proofs.Ended.{table_accepted, end_declined, end_accepted}
 use borrow.Author.Rules.{rules}
 use Rattle.plant.proofs.setup.set_up.Statement.{statement}
 use Rattle.plant.proofs.setup.set_up.Tie as tie
@@ -30,7 +30,7 @@ returns_2 c =
     let body = a.body.now in
     let rows = setup_checks a.u.outline a.count body in
     end_accepted a.u (setup_of a.count body) _ rows c.parse.ensures
-    (table-accepted rows _ (setup_of a.count body) k.check-setup.ensures c.before.enum-told2.given.1)
+    (table_accepted rows _ (setup_of a.count body) k.check-setup.ensures c.before.enum-told2.given.1)
 
 pub set-up-spec : {M : Type 1} → statement M
 set-up-spec =

@@ -2,7 +2,7 @@ use mathlib.Core.Path.{◌≡◌}
 use native.Mathlib.Omega.{arith}
 use Rattle.amounts.specs.Decline.{taken, checked}
 use Rattle.plant.specs.Stage.{stage_checks, with_stage, described_on}
-use Rattle.plant.proofs.Ended.{table-accepted, end_declined, end_accepted}
+use Rattle.plant.proofs.Ended.{table_accepted, end_declined, end_accepted}
 use Rattle.plant.proofs.stage.Taken.{Accepts, accepted}
 use borrow.Author.Rules.{rules}
 use Rattle.plant.proofs.stage.describe.Statement.{statement}
@@ -18,7 +18,7 @@ passes : (c : tie.After-enum-told2) → let a = (start c).args in
 passes c =
     let a = (start c).args in
     let after = with_stage a.u a.stage a.body.now in
-    let e = table-accepted (stage_checks a.u.outline a.stage a.body.now) _ after c.before.before.check-stage.ensures c.enum-told2.given.1 in
+    let e = table_accepted (stage_checks a.u.outline a.stage a.body.now) _ after c.before.before.check-stage.ensures c.enum-told2.given.1 in
     ((accepted a.u.outline a.stage a.body.now after after e).0, e)
 
 check-stage-requires : tie.Need-check-stage-requires

@@ -4,7 +4,7 @@ use Prim.Native.Nat.{◌+◌, ◌≤◌, ◌-◌}
 use native.Mathlib.Omega.{arith}
 use borrow.Author.Rules.{rules}
 use Rattle.encoding.specs.Each.{put_to}
-use Rattle.encoding.proofs.Each.{put-again}
+use Rattle.encoding.proofs.Each.{put_again}
 use Rattle.plant.specs.Stage.{rate_row}
 use Rattle.plant.proofs.stage.rates_into.Statement.{statement}
 use Rattle.plant.proofs.stage.rates_into.Tie as tie
@@ -44,7 +44,7 @@ loop-again : tie.Need-loop-preserved invariant-loop decreases-loop
 loop-again c =
     let l = c.before.before in
     let a = l.before.before.args in
-    (search rules, put-again (λ k. a.base + k) (rate_row a.s.now) a.rates l.loop.i l.loop.out _ l.loop.invariant.1 c.rates-at.ensures)
+    (search rules, put_again (λ k. a.base + k) (rate_row a.s.now) a.rates l.loop.i l.loop.out _ l.loop.invariant.1 c.rates-at.ensures)
 
 returns : tie.Need-returns invariant-loop decreases-loop
 returns c =

@@ -6,7 +6,7 @@ use native.Mathlib.Omega.{arith}
 use borrow.Author.Rules.{rules}
 use Rattle.amounts.specs.Decline.{value_or}
 use Rattle.encoding.specs.Each.{put_to}
-use Rattle.encoding.proofs.Each.{put-again}
+use Rattle.encoding.proofs.Each.{put_again}
 use Rattle.plant.specs.Stage.{second_of, water_row}
 use Rattle.plant.proofs.stage.sides_into.Statement.{statement}
 use Rattle.plant.proofs.stage.sides_into.Tie as tie
@@ -50,7 +50,7 @@ loop-again c =
     let l = c.before.before.before in
     let a = l.before.before.args in
     let read = c.is-second.ensures ∙ ap cased c.before.byte_at.ensures in
-    (search rules, put-again (λ k. a.base + k) (water_row a.s.now) a.to-water l.loop.i l.loop.out _ l.loop.invariant.1 read)
+    (search rules, put_again (λ k. a.base + k) (water_row a.s.now) a.to-water l.loop.i l.loop.out _ l.loop.invariant.1 read)
 
 returns : tie.Need-returns invariant-loop decreases-loop
 returns c =

@@ -7,7 +7,7 @@ use Rattle.kinds.specs.Kind.{Row}
 use Rattle.post.specs.Moves.{floats_fit, laid_out}
 use Rattle.post.specs.Steps.{laid_as, laid_answer}
 use Rattle.post.specs.declared.moves.Laid.{Laid}
-use Rattle.post.proofs.moves.Laws.{known_laid, refused_laid, not-formed, formed, no-range}
+use Rattle.post.proofs.moves.Laws.{known_laid, refused_laid, not_formed, formed, no_range}
 use Rattle.post.proofs.moves.check_post.Statement.{statement}
 use Rattle.post.proofs.moves.check_post.Tie as tie
 
@@ -46,13 +46,13 @@ returns_2 : tie.Need-returns-2
 returns_2 c =
     let k = c.before.before.before in
     let a = (start k).args in
-    no-range a.o a.s.now (found k).0 (found k).1 (as_found k ∙ sym c.before.floats-fit.ensures ∙ c.if1.false)
+    no_range a.o a.s.now (found k).0 (found k).1 (as_found k ∙ sym c.before.floats-fit.ensures ∙ c.if1.false)
 
 returns-3 : tie.Need-returns-3
 returns-3 c =
     let k = c.before.before.before in
     let a = k.before.before.args in
-    not-formed a.o a.s.now c.before.d.given.0.0
+    not_formed a.o a.s.now c.before.d.given.0.0
     (refused_laid (post_at a.s.now) _ _ (sym (ap laid_answer c.before.d.given.1) ∙ k.read-post.ensures))
 
 pub check-post-spec : {M : Type 1} → statement M

@@ -11,7 +11,7 @@ use Rattle.kinds.proofs.kind.Laws.{well, under, product_fits}
 use Rattle.post.specs.Moves.{move_of, laid_out}
 use Rattle.post.specs.Steps.{laid_as, laid_answer, amount_read}
 use Rattle.post.specs.declared.moves.Laid.{Laid}
-use Rattle.post.proofs.moves.Laws.{known_laid, refused_laid, row_laid, not-laid, no-amount, amount}
+use Rattle.post.proofs.moves.Laws.{known_laid, refused_laid, row_laid, not_laid, no_amount, amount}
 use Rattle.post.proofs.moves.read_move.Statement.{statement}
 use Rattle.post.proofs.moves.read_move.Tie as tie
 
@@ -78,14 +78,14 @@ returns_2 c =
     let e = c.before.before.before in
     let k = e.before.before in
     let a = (start k).args in
-    no-amount a.o a.s.now (found k).0 (found k).1 a.numbers.now c.before.d.given.0.0.number
+    no_amount a.o a.s.now (found k).0 (found k).1 a.numbers.now c.before.d.given.0.0.number
     (sym (ap losses.answer c.before.d.given.1) ∙ as_measured e)
 
 returns-3 : tie.Need-returns-3
 returns-3 c =
     let k = c.before.before.before in
     let a = k.before.before.before.args in
-    not-laid a.o a.s.now a.numbers.now c.before.d2.given.0.0.number
+    not_laid a.o a.s.now a.numbers.now c.before.d2.given.0.0.number
     (refused_laid (post_at a.s.now) _ _ (sym (ap laid_answer c.before.d2.given.1) ∙ k.read-post.ensures))
 
 pub read-move-spec : {M : Type 1} → statement M

@@ -10,7 +10,7 @@ use Rattle.kinds.specs.Kind.{Row, fields_fit, kind_of, kind_at}
 use Rattle.kinds.specs.declared.fields.Post.{Post}
 use Rattle.kinds.specs.declared.kind.Kind.{Kind}
 use Rattle.post.specs.declared.moves.Laid.{Laid}
-use Rattle.post.proofs.moves.Laws.{wrong-length, no_row, no-fit, laid, known_row, refused_row}
+use Rattle.post.proofs.moves.Laws.{wrong_length, no_row, no_fit, laid, known_row, refused_row}
 use Rattle.post.proofs.moves.read_post.Statement.{statement}
 use Rattle.post.proofs.moves.read_post.Tie as tie
 
@@ -41,7 +41,7 @@ as_found c = sym (ap (λ (k : Kind). fields_fit k.limits (post c)) (found c).2)
 -- ---- the needs
 
 returns : tie.Need-returns
-returns c = let a = c.before.before.args in wrong-length a.o a.s.now c.if1.true
+returns c = let a = c.before.before.args in wrong_length a.o a.s.now c.if1.true
 
 decode-requires : tie.Need-decode-requires
 decode-requires c κs = search rules
@@ -69,7 +69,7 @@ returns-3 : tie.Need-returns-3
 returns-3 c =
     let k = c.before.before.before in
     let a = (start k).args in
-    no-fit a.o a.s.now (long k) (post k) (decoded k) (found k).0 (found k).1 (as_found k ∙ misses c.before.fields_fit.ensures c.if2.true)
+    no_fit a.o a.s.now (long k) (post k) (decoded k) (found k).0 (found k).1 (as_found k ∙ misses c.before.fields_fit.ensures c.if2.true)
 
 returns-4 : tie.Need-returns-4
 returns-4 c =

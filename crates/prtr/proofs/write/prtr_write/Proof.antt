@@ -1,6 +1,6 @@
 use mathlib.Core.Path.{sym, ◌∙◌}
 use Rattle.records.specs.Batch.{written_in}
-use Rattle.prtr.proofs.write.Laws.{of-written, of-stopped}
+use Rattle.prtr.proofs.write.Laws.{of_written, of_stopped}
 use borrow.Author.Rules.{rules}
 use Rattle.prtr.proofs.write.prtr_write.Statement.{statement}
 use Rattle.prtr.proofs.write.prtr_write.Tie as tie
@@ -23,7 +23,7 @@ returns c =
     let a = k.before.before.before.before.args in
     let g = c.before.n.given in
     let o = written_in a.journal.now a.records.now in
-    let t = of-written a.written.now a.place.now o g.0.0 (sym g.1 ∙ k.write-records.ensures.0) in
+    let t = of_written a.written.now a.place.now o g.0.0 (sym g.1 ∙ k.write-records.ensures.0) in
     (t.0, (k.write-records.ensures.1, (t.1, t.2)))
 
 same_length_2 : tie.Need-same-length-2
@@ -35,7 +35,7 @@ returns_2 c =
     let a = k.before.before.before.before.args in
     let g = c.before.number.given in
     let o = written_in a.journal.now a.records.now in
-    let t = of-stopped a.written.now a.place.now o g.0.0 g.0.1.0 (sym g.1 ∙ k.write-records.ensures.0) in
+    let t = of_stopped a.written.now a.place.now o g.0.0 g.0.1.0 (sym g.1 ∙ k.write-records.ensures.0) in
     (t.0, (k.write-records.ensures.1, (t.1, t.2)))
 
 pub prtr-write-spec : {M : Type 1} → statement M

@@ -9,7 +9,7 @@ use Rattle.encoding.proofs.bytes.Laws.{tail_is}
 use Rattle.records.specs.Records.{span_of}
 use borrow.Author.Rules.{rules}
 use Rattle.pages.specs.Page.{Page, page_of}
-use Rattle.records.proofs.batch.Laws.{Upto, upto_none, upto-within, upto_next, upto-stop, upto_end}
+use Rattle.records.proofs.batch.Laws.{Upto, upto_none, upto_within, upto_next, upto_stop, upto_end}
 use Rattle.records.proofs.batch.fill.Statement.{statement}
 use Rattle.records.proofs.batch.fill.Tie as tie
 
@@ -45,7 +45,7 @@ inside k = omega (arith, k.before.before.before.loop-test)
 ends : (k : tie.After-take-first invariant-loop decreases-loop) → k.take-first.result.verdict ≡ Accepted → (at k).loop.at + span_of (rest k) ≤ length (bytes k)
 ends k e =
     let l = at k in
-    upto-within (bytes k) (start l).args.buffer.now (page l) (after k) l.loop.at (inside k) l.loop.inv k.take-first.result.verdict (rest k)
+    upto_within (bytes k) (start l).args.buffer.now (page l) (after k) l.loop.at (inside k) l.loop.inv k.take-first.result.verdict (rest k)
     (tail_is l.loop.at (bytes k)) k.take-first.ensures e
 
 fresh-requires : tie.Need-fresh-requires invariant-loop decreases-loop
@@ -78,7 +78,7 @@ returns : tie.Need-returns invariant-loop decreases-loop
 returns c =
     let k = c.before.before.before.before in
     let l = at k in
-    upto-stop (bytes k) (start l).args.buffer.now (page l) (after k) l.loop.at (inside k) l.loop.inv k.take-first.result.verdict (rest k)
+    upto_stop (bytes k) (start l).args.buffer.now (page l) (after k) l.loop.at (inside k) l.loop.inv k.take-first.result.verdict (rest k)
     (tail_is l.loop.at (bytes k)) k.take-first.ensures _ 0 k.take-first.new.0 c.enum_told.given.1
 
 enum-told-2 : tie.Need-enum-told-2 invariant-loop decreases-loop

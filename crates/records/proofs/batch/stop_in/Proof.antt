@@ -8,7 +8,7 @@ use Rattle.layout.specs.declared.verdict.Verdict.TheVariants.{Accepted}
 use Rattle.encoding.proofs.bytes.Laws.{tail_is}
 use Rattle.records.specs.Records.{span_of}
 use borrow.Author.Rules.{rules}
-use Rattle.records.proofs.batch.Laws.{Counting, counting_none, counting-within, counting-next, counting-stop, counting_end}
+use Rattle.records.proofs.batch.Laws.{Counting, counting_none, counting_within, counting_next, counting_stop, counting_end}
 use Rattle.records.proofs.batch.stop_in.Statement.{statement}
 use Rattle.records.proofs.batch.stop_in.Tie as tie
 
@@ -35,7 +35,7 @@ inside k = omega (arith, k.before.before.loop-test)
 ends : (k : tie.After-count-first invariant-loop decreases-loop) → k.count-first.result.verdict ≡ Accepted → (at k).loop.at + span_of (rest k) ≤ length (bytes k)
 ends k e =
     let l = at k in
-    counting-within (bytes k) l.before.before.before.args.room l.loop.t k.count-first.result.tally l.loop.place l.loop.at (inside k) l.loop.inv
+    counting_within (bytes k) l.before.before.before.args.room l.loop.t k.count-first.result.tally l.loop.place l.loop.at (inside k) l.loop.inv
     k.count-first.result.verdict (rest k) (tail_is l.loop.at (bytes k)) k.count-first.ensures e
 
 fresh-requires : tie.Need-fresh-requires invariant-loop decreases-loop
@@ -65,7 +65,7 @@ returns : tie.Need-returns invariant-loop decreases-loop
 returns c =
     let k = c.before.before.before in
     let l = at k in
-    counting-stop (bytes k) l.before.before.before.args.room l.loop.t k.count-first.result.tally l.loop.place l.loop.at (inside k) l.loop.inv
+    counting_stop (bytes k) l.before.before.before.args.room l.loop.t k.count-first.result.tally l.loop.place l.loop.at (inside k) l.loop.inv
     k.count-first.result.verdict (rest k) (tail_is l.loop.at (bytes k)) k.count-first.ensures c.before.v.given.0.0 c.before.v.given.1
 
 enum_told : tie.Need-enum-told invariant-loop decreases-loop
@@ -87,7 +87,7 @@ loop-again : tie.Need-loop-preserved invariant-loop decreases-loop
 loop-again c =
     let k = c.before.before.before.before in
     let l = at k in
-    counting-next (bytes k) l.before.before.before.args.room l.loop.t k.count-first.result.tally l.loop.place l.loop.at (inside k) l.loop.inv
+    counting_next (bytes k) l.before.before.before.args.room l.loop.t k.count-first.result.tally l.loop.place l.loop.at (inside k) l.loop.inv
     k.count-first.result.verdict (rest k) (tail_is l.loop.at (bytes k)) k.count-first.ensures c.Span-of.result c.Span-of.ensures
     c.before.before.enum_told.given.1
 

@@ -1,6 +1,6 @@
 use mathlib.Core.Path.{refl, sym, ◌∙◌}
 use Rattle.records.specs.Batch.{written_in}
-use Rattle.records.proofs.batch.Laws.{ends-stopped, ends-complete}
+use Rattle.records.proofs.batch.Laws.{ends_stopped, ends_complete}
 use borrow.Author.Rules.{rules}
 use Rattle.records.proofs.batch.write_records.Statement.{statement}
 use Rattle.records.proofs.batch.write_records.Tie as tie
@@ -23,7 +23,7 @@ returns c =
     let a = k.before.before.before.args in
     let l = a.buffer.now in
     let g = c.before.stop.given in
-    ends-stopped l (written_in l a.records.now) g.0.0 g.0.1.0 (sym g.1 ∙ k.stop-in.ensures l refl)
+    ends_stopped l (written_in l a.records.now) g.0.0 g.0.1.0 (sym g.1 ∙ k.stop-in.ensures l refl)
 
 same_length : tie.Need-same-length
 same_length c = search rules
@@ -35,7 +35,7 @@ returns_2 c =
     let k = e.before.before in
     let a = k.before.before.before.args in
     let l = a.buffer.now in
-    ends-complete l (written_in l a.records.now) f.fill.result f.fill.new.1.0 (sym e.enum_told.given.1 ∙ k.stop-in.ensures l refl) f.fill.ensures
+    ends_complete l (written_in l a.records.now) f.fill.result f.fill.new.1.0 (sym e.enum_told.given.1 ∙ k.stop-in.ensures l refl) f.fill.ensures
 
 pub write-records-spec : {M : Type 1} → statement M
 write-records-spec =

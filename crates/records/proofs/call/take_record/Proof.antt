@@ -1,5 +1,5 @@
 use Rattle.pages.specs.Page.{Page, page_of}
-use Rattle.records.proofs.call.Laws.{on-set-up, on_post, on-end, on_none, answers_as, answers_none}
+use Rattle.records.proofs.call.Laws.{on_set_up, on_post, on_end, on_none, answers_as, answers_none}
 use borrow.Author.Rules.{rules}
 use Rattle.records.proofs.call.take_record.Statement.{statement}
 use Rattle.records.proofs.call.take_record.Tie as tie
@@ -30,7 +30,7 @@ returns c =
     let m = n.before in
     let t = m.before.before.before.before in
     answers_as
-    (on-set-up (page t) t.args.tag t.args.s.now m.byte_at.result n.byte-at2.result b.tail.result.now m.before.if1.true m.byte_at.ensures
+    (on_set_up (page t) t.args.tag t.args.s.now m.byte_at.result n.byte-at2.result b.tail.result.now m.before.if1.true m.byte_at.ensures
     n.byte-at2.ensures b.tail.ensures)
     k.take-set-up.ensures
 
@@ -58,7 +58,7 @@ returns-3 c =
     let k = c.before.before in
     let i = k.before.before in
     let t = i.before.before.before.before.before in
-    answers_as (on-end (page t) t.args.tag t.args.s.now i.before.before.if1.false i.before.if2.false i.if3.true) k.end-posts.ensures
+    answers_as (on_end (page t) t.args.tag t.args.s.now i.before.before.if1.false i.before.if2.false i.if3.true) k.end-posts.ensures
 
 returns-4 : tie.Need-returns-4
 returns-4 c =

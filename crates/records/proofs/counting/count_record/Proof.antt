@@ -1,4 +1,4 @@
-use Rattle.records.proofs.counting.Laws.{count-set-up, count_post, count-end, count_none, counts_as, counts_none}
+use Rattle.records.proofs.counting.Laws.{count_set_up, count_post, count_end, count_none, counts_as, counts_none}
 use borrow.Author.Rules.{rules}
 use Rattle.records.proofs.counting.count_record.Statement.{statement}
 use Rattle.records.proofs.counting.count_record.Tie as tie
@@ -23,7 +23,7 @@ returns c =
     let t = m.before.before.before in
     let a = t.args in
     counts_as
-    (count-set-up a.room a.t a.tag a.s.now m.byte_at.result n.byte-at2.result b.tail.result.now m.before.if1.true m.byte_at.ensures
+    (count_set_up a.room a.t a.tag a.s.now m.byte_at.result n.byte-at2.result b.tail.result.now m.before.if1.true m.byte_at.ensures
     n.byte-at2.ensures b.tail.ensures)
     c.set_up.ensures
 
@@ -43,7 +43,7 @@ returns-3 : tie.Need-returns-3
 returns-3 c =
     let i = c.before in
     let a = i.before.before.before.before.args in
-    counts_as (count-end a.room a.t a.tag a.s.now i.before.before.if1.false i.before.if2.false i.if3.true) c.end.ensures
+    counts_as (count_end a.room a.t a.tag a.s.now i.before.before.if1.false i.before.if2.false i.if3.true) c.end.ensures
 
 returns-4 : tie.Need-returns-4
 returns-4 c =

@@ -12,15 +12,15 @@ use Rattle.report.proofs.fate.parts_of.Statement.{statement}
 use Rattle.report.proofs.fate.parts_of.Tie as tie
 
 module _ (a r d : ℕ) (h : (r ≤ 1000000) × (d ≤ 1000000)) where
-  split-taken : split_of a r d ≡ taken (parts_of a r d)
+  split_taken : split_of a r d ≡ taken (parts_of a r d)
   unfolding split_of
-  split-taken = rw (le-leb r 1000000 h.0, le-leb d 1000000 h.1)
+  split_taken = rw (le-leb r 1000000 h.0, le-leb d 1000000 h.1)
 
   same : (p : Parts) → taken p ≡ split_of a r d → p ≡ parts_of a r d
-  same p e = let z = e ∙ split-taken in cc
+  same p e = let z = e ∙ split_taken in cc
 
   never : {A : Type 0} {x y : A} (n : ℕ) → declined n ≡ split_of a r d → x ≡ y
-  never n e = let w = e ∙ split-taken in let z : ◌≡◌ {A = ℕ} 0 1 = cc in absurd (omega arith)
+  never n e = let w = e ∙ split_taken in let z : ◌≡◌ {A = ℕ} 0 1 = cc in absurd (omega arith)
 
 split-total-requires : tie.Need-split-total-requires
 split-total-requires c κs = search rules

@@ -1,7 +1,7 @@
 use Prim.Native.Nat.{◌<◌}
 use native.Mathlib.Omega.{arith}
 use borrow.Author.Rules.{rules}
-use Rattle.report.proofs.report.Laws.{total-fits, stored-fits, report_is}
+use Rattle.report.proofs.report.Laws.{total_fits, stored_fits, report_is}
 use Rattle.report.proofs.report.report_in.Statement.{statement}
 use Rattle.report.proofs.report.report_in.Tie as tie
 
@@ -32,12 +32,12 @@ due-or-not-requires c κs = search rules
 stored-of-requires : tie.Need-stored-of-requires
 stored-of-requires c κs =
     let k = start c in
-    (known k, stored-fits k.args.t1 k.args.t2 k.pre.1.0 k.args.place (known k))
+    (known k, stored_fits k.args.t1 k.args.t2 k.pre.1.0 k.args.place (known k))
 
 fate-to-requires : tie.Need-fate-to-requires
 fate-to-requires c κs =
     let k = start c.before.before.before in
-    (k.pre.0, (known k, total-fits k.args.t1 k.args.t2 k.pre.1.0 k.args.place (known k)))
+    (k.pre.0, (known k, total_fits k.args.t1 k.args.t2 k.pre.1.0 k.args.place (known k)))
 
 filing-of-requires : tie.Need-filing-of-requires
 filing-of-requires c κs = search rules

@@ -3,7 +3,7 @@ use native.Mathlib.Omega.{arith}
 use borrow.Author.Rules.{rules}
 use mir.Facts.{to_z-of_z}
 use mir.Syntax.{w64}
-use Rattle.stock.proofs.sheet.Laws.{too_much, not_there, in_book, has-store, store-small, answered}
+use Rattle.stock.proofs.sheet.Laws.{too_much, not_there, in_book, has_store, store_small, answered}
 use Rattle.stock.proofs.sheet.difference_of.Statement.{statement}
 use Rattle.stock.proofs.sheet.difference_of.Tie as tie
 
@@ -34,7 +34,7 @@ element-copy-out-less c =
     let u = c.before.before.before.before in
     let s = u.before.before in
     let l = in_book s.args.b s.args.material u.setup-of.result u.setup-of.ensures (omega (arith, c.before.if2.false)) in
-    has-store s.args.b s.args.material s.requires l
+    has_store s.args.b s.args.material s.requires l
 
 less-requires : tie.Need-less-requires
 less-requires c κs =
@@ -43,7 +43,7 @@ less-requires c κs =
     let s = u.before.before in
     let l = in_book s.args.b s.args.material u.setup-of.result u.setup-of.ensures (omega (arith, y.before.if2.false)) in
     let few = u.before.if1.false in
-    let small = store-small s.args.b s.args.material s.requires l y.year-of.result y.year-of.ensures in
+    let small = store_small s.args.b s.args.material s.requires l y.year-of.result y.year-of.ensures in
     (omega (arith, few, small), omega (arith, few, small))
 
 returns-3 : tie.Need-returns-3

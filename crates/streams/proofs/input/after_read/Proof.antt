@@ -8,7 +8,7 @@ use mir.Val.{to_z, of_z}
 use mir.ValLaws.{to_z-of_z}
 use Rattle.libc.specs.Io.{Moved}
 use Rattle.streams.specs.Input.{after_read}
-use Rattle.streams.proofs.input.Laws.{not_negative, within, it-fails, it-brings, ends-short, ends-here}
+use Rattle.streams.proofs.input.Laws.{not_negative, within, it_fails, it_brings, ends_short, ends_here}
 use Rattle.streams.proofs.input.after_read.Statement.{statement}
 use Rattle.streams.proofs.input.after_read.Tie as tie
 
@@ -31,7 +31,7 @@ brought c =
     within (answer s) room (subst (Moved room) (sym (back s)) s.requires.1) c.if2.true
 
 returns : tie.Need-returns
-returns c = let s = c.before in it-fails s.args.done s.args.room (answer s) c.if1.true ∙ likewise s
+returns c = let s = c.before in it_fails s.args.done s.args.room (answer s) c.if1.true ∙ likewise s
 
 cast-progress-of : tie.Need-overflow-cast-progress-of
 cast-progress-of c = (not_negative (answer c.before.before) c.if2.true, record { fits = omega (arith, brought c, c.before.before.ranges.room.fits) })
@@ -43,17 +43,17 @@ progress-of-requires : tie.Need-progress-of-requires
 progress-of-requires c κs = search rules
 
 returns_2 : tie.Need-returns-2
-returns_2 c = let s = c.before.before.before in c.progress-of.ensures ∙ it-brings s.args.done s.args.room (answer s) c.before.if2.true ∙ likewise s
+returns_2 c = let s = c.before.before.before in c.progress-of.ensures ∙ it_brings s.args.done s.args.room (answer s) c.before.if2.true ∙ likewise s
 
 returns-3 : tie.Need-returns-3
 returns-3 c =
     let s = c.before.before.before in
-    ends-short s.args.done s.args.room (answer s) c.before.before.if1.false c.before.if2.false c.if3.true ∙ likewise s
+    ends_short s.args.done s.args.room (answer s) c.before.before.if1.false c.before.if2.false c.if3.true ∙ likewise s
 
 returns-4 : tie.Need-returns-4
 returns-4 c =
     let s = c.before.before.before in
-    ends-here s.args.done s.args.room (answer s) c.before.before.if1.false c.before.if2.false c.if3.false ∙ likewise s
+    ends_here s.args.done s.args.room (answer s) c.before.before.if1.false c.before.if2.false c.if3.false ∙ likewise s
 
 pub after-read-spec : {M : Type 1} → statement M
 after-read-spec = tie.close (tie.spec returns cast-progress-of add-progress-of progress-of-requires returns_2 returns-3 returns-4)

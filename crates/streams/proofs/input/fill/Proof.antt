@@ -9,7 +9,7 @@ use mir.Syntax.{w64}
 use mir.Val.{to_z, of_z}
 use mir.ValLaws.{to_z-of_z}
 use Rattle.libc.specs.Io.{Moved}
-use Rattle.streams.proofs.input.Laws.{moved_as, Stands, to_read, stands_at, stands_after, fewer-to-read}
+use Rattle.streams.proofs.input.Laws.{moved_as, Stands, to_read, stands_at, stands_after, fewer_to_read}
 use Rattle.streams.proofs.input.fill.Statement.{statement}
 use Rattle.streams.proofs.input.fill.Tie as tie
 
@@ -60,7 +60,7 @@ loop-less : tie.Need-loop-smaller invariant-loop decreases-loop
 loop-less c =
     let r = c.before.before.before in
     let k = r.before.before.before in
-    omega (arith, fewer-to-read (done k) (room k) (free k) (answer r), ap (to_read (room k)) c.after_read.ensures, ap (to_read (room k)) k.progress.given.1)
+    omega (arith, fewer_to_read (done k) (room k) (free k) (answer r), ap (to_read (room k)) c.after_read.ensures, ap (to_read (room k)) k.progress.given.1)
 
 loop-again : tie.Need-loop-preserved invariant-loop decreases-loop
 loop-again c =

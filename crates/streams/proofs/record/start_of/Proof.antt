@@ -1,7 +1,7 @@
 use mathlib.Core.Path.{sym, ap}
 use borrow.Author.Rules.{rules}
 use Rattle.streams.specs.Record.{start_of}
-use Rattle.streams.proofs.record.Laws.{too_long, in-room}
+use Rattle.streams.proofs.record.Laws.{too_long, in_room}
 use Rattle.streams.proofs.record.start_of.Statement.{statement}
 use Rattle.streams.proofs.record.start_of.Tie as tie
 
@@ -30,7 +30,7 @@ returns_2 : tie.Need-returns-2
 returns_2 c =
     let k = c.before.before in
     let a = k.before.before.before.args in
-    in-room a.room a.s a.part k.head_of.result k.before.enum_told.given.1 k.head_of.ensures c.if1.false
+    in_room a.room a.s a.part k.head_of.result k.before.enum_told.given.1 k.head_of.ensures c.if1.false
 
 returns-3 : tie.Need-returns-3
 returns-3 c = let a = c.before.before.args in sym (ap (start_of a.room a.s) c.enum-told2.given.1)

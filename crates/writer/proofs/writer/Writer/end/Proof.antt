@@ -52,7 +52,7 @@ use Rattle.pages.specs.declared.draft.Draft.{Draft}
 use Rattle.pages.specs.declared.page.Taken.{Taken}
 use Rattle.writer.specs.declared.writer.Writer.{Writer}
 use Rattle.writer.proofs.Held as held
-use Rattle.writer.proofs.Held.{draft_val, writer_val, filled-fits, draft-is, slice_at, writer-at, second, Row}
+use Rattle.writer.proofs.Held.{draft_val, writer_val, filled_fits, draft_is, slice_at, writer_at, second, Row}
 use Rattle.pages.specs.contracts.draft.Draft as D
 use Rattle.pages.proofs.draft.Draft.TheLaws as D'
 use Rattle.pages.specs.contracts.page.Taken as K
@@ -89,7 +89,7 @@ module _ {M : Type 1} {𝓤 : Ura M} (𝓛 : Logic 𝓤) (at_mem : Memory → SP
 
   -- the record with the list l, the filled length m and the draft c
   abbrev h : List ℕ → ℕ → Draft → Writer
-  h = writer-at b' o' γ'
+  h = writer_at b' o' γ'
 
   abbrev Arg : Type 0
   Arg = MutBor Writer × Unit {0}
@@ -135,10 +135,10 @@ module _ {M : Type 1} {𝓤 : Ura M} (𝓛 : Logic 𝓤) (at_mem : Memory → SP
 
   goes : n < 2 ^ 64 → Is D.the_row d (draft_val d ∷ []) → (ν : ℕ) (δ : GName) → Asked
       → ent 𝓤 (⋆ 𝓛 (tokens ν ∷ ‵ (Lent ν δ) ∷ [])) ((EndPosts 𝓛 at_mem run).pre (to_end ν δ))
-  goes n-fits d-is ν δ sound =
+  goes n_fits d_is ν δ sound =
       qed 𝓛 (tokens ν ∷ ‵ (Lent ν δ) ∷ []) ∵ says ! sound $ frame ! $
-      nothing ! $ owned ! D.the_row (Is D.the_row) (LL.makes D.the_type D'.the_plain 𝓛) d _ d-is $ fjoin ! $
-      owned ! usize (Is usize) (uint_Makes 𝓛 w64) n _ (refl, n-fits) $ fjoin ! $ move ! (1 ∷ 0 ∷ []) $ fjoin ! $ done !
+      nothing ! $ owned ! D.the_row (Is D.the_row) (LL.makes D.the_type D'.the_plain 𝓛) d _ d_is $ fjoin ! $
+      owned ! usize (Is usize) (uint_Makes 𝓛 w64) n _ (refl, n_fits) $ fjoin ! $ move ! (1 ∷ 0 ∷ []) $ fjoin ! $ done !
 
   -- what is had at exit
   abbrev left : Taken → List ℕ → List (Item 𝓤)
@@ -174,14 +174,14 @@ module _ {M : Type 1} {𝓤 : Ura M} (𝓛 : Logic 𝓤) (at_mem : Memory → SP
         assigns ! (agg ! (and_then ! (load ! (from ! (stop !)) (look ! 13 refl)) (and_then ! (load ! (from ! (stop !)) (look ! 15 refl)) (no_more !)))) (from ! (stop !))
         (init ! 11 refl (tt, (tt, (record { fits = (held.room κ' b' o' γ' ys n d g).0 }, tt)))) $
         assigns ! (of_opd ! (load ! (from ! (hop ! (look ! 19 refl) (fld ! refl (stop !)))) (look_in ! 0 (sub ! 1 refl (whole !))))) (from ! (stop !))
-        (init ! 9 refl (tt, record { fits = held.n-fits κ' b' o' γ' ys n d g })) $
+        (init ! 9 refl (tt, record { fits = held.n_fits κ' b' o' γ' ys n d g })) $
         assigns ! (of_opd ! (load ! (from ! (hop ! (look ! 19 refl) (fld ! refl (stop !)))) (look_in ! 0 (sub ! 2 refl (whole !))))) (from ! (stop !))
-        (init ! 7 refl ((LL.lawful D.the_type D'.the_laws 𝓛).typed d _ (held.d-is κ' b' o' γ' ys n d g)).0) $
+        (init ! 7 refl ((LL.lawful D.the_type D'.the_laws 𝓛).typed d _ (held.d_is κ' b' o' γ' ys n d g)).0) $
         -- the Writer's slice is lent again for a lifetime ν of the call
         move ! (5 ∷ []) $ split ! $ lft_new ! tt (λ ν. move ! (4 ∷ 1 ∷ []) $
         use2 𝓛 (later (some (λ (δ : GName). ‵ (Lent ν δ) ⊛ ‵ (Keeps ν δ)))) (held.lends κ' b' o' γ' ys 𝓛 q' ν n d) $ await ! tt $ pick ! (λ δ. split ! $
         move ! (2 ∷ 3 ∷ []) $ join ! $ use2 𝓛 (raw ((EndPosts 𝓛 at_mem run).pre (to_end ν δ)))
-        (goes (held.n-fits κ' b' o' γ' ys n d g) (held.d-is κ' b' o' γ' ys n d g) ν δ sound) $
+        (goes (held.n_fits κ' b' o' γ' ys n d g) (held.d_is κ' b' o' γ' ys n d g) ν δ sound) $
         -- [what the call asks; what is kept of the slice; the struct's cell; the open borrow; obs; auth; true; _7; …]
         calls_at ! fm (EndPosts 𝓛 at_mem run) known (to_end ν δ) (and_then ! (load ! (from ! (stop !)) (look ! 11 refl)) (and_then ! (load ! (from ! (stop !)) (look ! 9 refl))
         (and_then ! (load ! (from ! (stop !)) (look ! 7 refl)) (no_more !)))) (λ w.
@@ -198,28 +198,28 @@ module _ {M : Type 1} {𝓤 : Ura M} (𝓛 : Logic 𝓤) (at_mem : Memory → SP
         move ! (1 ∷ []) $ split ! $ lft_end ! tt $ move ! (0 ∷ 5 ∷ 3 ∷ []) $ use3 𝓛
         (later (‵ (R.own_val (h zs.0 r.filled r.draft) (mach r.filled r.draft ∷ [])) ⊛ ‵ (flft κ' q')))
         (held.comes_home κ' b' o' γ' ys 𝓛 q' ν δ zs.0 r.filled r.draft (held.room κ' b' o' γ' ys n d g) l
-        (filled-fits r w is) (draft-is r w is)) $ await ! tt $ split ! $
+        (filled_fits r w is) (draft_is r w is)) $ await ! tt $ split ! $
         -- [what the Writer owns; the inner token; true; the Taken's; …; the struct's cell; the open borrow; obs; auth; true; _7; …; _2; …; _1; …; room for _0; …]
         assigns ! (of_opd ! (load ! (from ! (fld ! refl (stop !))) (look_in ! 20 (sub ! 1 refl (whole !))))) (from ! (hop ! (look ! 22 refl) (fld ! refl (stop !))))
-        (store_in ! 5 (sub ! 1 refl (whole !)) (tt, record { fits = filled-fits r w is })) $
+        (store_in ! 5 (sub ! 1 refl (whole !)) (tt, record { fits = filled_fits r w is })) $
         assigns ! (of_opd ! (load ! (from ! (fld ! refl (stop !))) (look_in ! 20 (sub ! 2 refl (whole !))))) (from ! (hop ! (look ! 22 refl) (fld ! refl (stop !))))
-        (store_in ! 5 (sub ! 2 refl (whole !)) ((LL.lawful D.the_type D'.the_laws 𝓛).typed r.draft _ (draft-is r w is)).0) $
+        (store_in ! 5 (sub ! 2 refl (whole !)) ((LL.lawful D.the_type D'.the_laws 𝓛).typed r.draft _ (draft_is r w is)).0) $
         assigns ! (of_opd ! (load ! (from ! (fld ! refl (stop !))) (look_in ! 20 (sub ! 1 refl (whole !))))) (from ! (stop !))
-        (init ! 24 refl (tt, record { fits = filled-fits r w is })) $
+        (init ! 24 refl (tt, record { fits = filled_fits r w is })) $
         -- the outer borrow is closed
         move ! (5 ∷ []) $ use1 𝓛 (‵ (cell_at full_share R.mir (mach r.filled r.draft ∷ []) b o)) (𝓛.laws.at_raw full_share (T'.mir erased) b o (mach r.filled r.draft)) $
         move ! (0 ∷ 1 ∷ 6 ∷ 7 ∷ 8 ∷ []) $ closes ! tt R (h zs.0 r.filled r.draft) (mach r.filled r.draft ∷ []) b o $
         returns ! (look ! 22 refl) $ forget ! 8 refl $ forget ! 10 refl $ forget ! 12 refl $ forget ! 14 refl $ forget ! 16 refl $ forget ! 18 refl $ forget ! 20 refl $ forget ! 22 refl $
         move ! (22 ∷ 23 ∷ []) $ free1 ! $ move ! (20 ∷ 21 ∷ []) $ free1 ! $ move ! (18 ∷ 19 ∷ []) $ free1 ! $ move ! (16 ∷ 17 ∷ []) $ free1 ! $ move ! (14 ∷ 15 ∷ []) $ free1 ! $
         move ! (12 ∷ 13 ∷ []) $ free1 ! $ move ! (10 ∷ 11 ∷ []) $ free1 ! $ move ! (8 ∷ 9 ∷ []) $ free1 ! $ free0 ! $
-        keep ! (0 ∷ 1 ∷ 2 ∷ 3 ∷ []) $ by ! (exits r zs.0 (filled-fits r w is) e)))))))))))))))))))
+        keep ! (0 ∷ 1 ∷ 2 ∷ 3 ∷ []) $ by ! (exits r zs.0 (filled_fits r w is) e)))))))))))))))))))
 
 module _ {M : Type 1} {𝓤 : Ura M} (𝓛 : Logic 𝓤) (mem : Memory → SProp 𝓤) (run : Routine → Fun 𝓤) where
   open 𝓛 use {H}
 
-  end-walks : (C : Calls 𝓤 H) (Λ : Loops 𝓤 H) → FmC 𝓤 H 𝓛.laws C → Triple 𝓤 (C #end-posts) (EndPosts 𝓛 mem run)
+  end_walks : (C : Calls 𝓤 H) (Λ : Loops 𝓤 H) → FmC 𝓤 H 𝓛.laws C → Triple 𝓤 (C #end-posts) (EndPosts 𝓛 mem run)
       → Walks 𝓛 end.ended stayed (WpFn 𝓤 H C Λ code.function) (end.clauses 𝓛 mem run)
-  end-walks C Λ fm known = walked 𝓛 end.ended stayed (end.clauses 𝓛 mem run) (WpFn 𝓤 H C Λ code.function) (λ κs. (mut_vals, tt))
+  end_walks C Λ fm known = walked 𝓛 end.ended stayed (end.clauses 𝓛 mem run) (WpFn 𝓤 H C Λ code.function) (λ κs. (mut_vals, tt))
       (λ κs. (mut_Tells (named 0) κs.0 (T.the_row (named_lft 2 1 tt κs)), tt))
       (λ κs qs bounds a g are. needs 𝓤 (Sound (page a.0.now)) _
       (walk 𝓛 mem run κs.0 κs.1.0 bounds qs.0 qs.1.0 a.0.ptr.0 a.0.ptr.1 a.0.name
@@ -229,7 +229,7 @@ end_meets : {M : Type 1} {𝓤 : Ura M} (𝓛 : Logic 𝓤) → (mem : Memory �
     → Triple 𝓤 (𝓣.C #end-posts) (EndPosts 𝓛 mem run) → Meets 𝓛 end.signature (WpFn 𝓤 𝓛.H 𝓣.C 𝓣.Λ code.function) (end.spec 𝓛 mem run)
 end_meets {𝓤 = 𝓤} 𝓛 mem run 𝓣 known =
     walk_Meets 𝓛 end.ended stayed (Goes-ref 𝓛 2 0 tt WriterS, tt) (end.clauses 𝓛 mem run)
-    (WpFn 𝓤 𝓛.H 𝓣.C 𝓣.Λ code.function) (WpFn-mono 𝓤 𝓛.H 𝓛.laws 𝓣 code.function) (end-walks 𝓛 mem run 𝓣.C 𝓣.Λ (fm_of 𝓤 𝓛.H 𝓛.laws 𝓣) known)
+    (WpFn 𝓤 𝓛.H 𝓣.C 𝓣.Λ code.function) (WpFn-mono 𝓤 𝓛.H 𝓛.laws 𝓣 code.function) (end_walks 𝓛 mem run 𝓣.C 𝓣.Λ (fm_of 𝓤 𝓛.H 𝓛.laws 𝓣) known)
 
 pub end-spec : {M : Type 1} → stated.statement M
 unfolding code.routine tables_of

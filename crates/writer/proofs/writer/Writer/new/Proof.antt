@@ -94,10 +94,10 @@ module _ {M : Type 1} {𝓤 : Ura M} (𝓛 : Logic 𝓤) (mem : Memory → SProp
   abbrev Post : Val → SProp 𝓤
   Post = (walk_of 𝓛 new.ended stayed (new.clauses 𝓛 mem run)).post (((κ, tt), (q, tt), tt, (x, tt), at), tt)
 
-  abbrev to-fresh : (Fresh 𝓛 mem run).Ghost
-  to-fresh = ((tt, tt, tt, tt, tt), tt)
+  abbrev to_fresh : (Fresh 𝓛 mem run).Ghost
+  to_fresh = ((tt, tt, tt, tt, tt), tt)
 
-  goes : ent 𝓤 (emp 𝓤) ((Fresh 𝓛 mem run).pre to-fresh)
+  goes : ent 𝓤 (emp 𝓤) ((Fresh 𝓛 mem run).pre to_fresh)
   goes = qed 𝓛 [] ∵ nothing ! $ nothing ! $ join ! $ frame ! $ done !
 
   exits : (d : Draft) → Is D.the_row d (draft_val d ∷ []) → d ≡ fresh_draft fresh_tally → ent 𝓤 (on_entry 𝓛 new.signature (κ, tt) (q, tt) (x, tt) at) (Post (w d))
@@ -120,8 +120,8 @@ module _ {M : Type 1} {𝓤 : Ura M} (𝓛 : Logic 𝓤) (mem : Memory → SProp
         assigns ! (addr ! (from ! (fld ! refl (hop ! (look_in ! 6 (sub ! 0 refl (whole !))) (stop !))))) (from ! (stop !)) (init ! 4 refl (tt, tt)) $
         assigns ! (agg ! (and_then ! (load ! (from ! (stop !)) (look ! 4 refl)) (and_then ! (load ! (from ! (fld ! refl (stop !))) (look_in ! 6 (sub ! 1 refl (whole !)))) (no_more !))))
         (from ! (stop !)) (init ! 2 refl (tt, (tt, (record { fits = p.0.1.0 }, tt)))) $
-        use0 𝓛 (raw ((Fresh 𝓛 mem run).pre to-fresh)) goes $
-        calls_at ! fm (Fresh 𝓛 mem run) known to-fresh (no_more !) (λ u.
+        use0 𝓛 (raw ((Fresh 𝓛 mem run).pre to_fresh)) goes $
+        calls_at ! fm (Fresh 𝓛 mem run) known to_fresh (no_more !) (λ u.
         use1 𝓛 (later (some (λ (d : Draft). (‵ ftrue ⊛ ‵ ((D.the_row).own_val d (u ∷ []))) ⊛ raw (ensured 𝓛 fresh.ended (fresh.clauses 𝓛 mem run) tt tt tt d)))) (id⊢ 𝓤 _) $
         await ! tt $ pick ! (λ d. split ! $ move ! (1 ∷ []) $ use1 𝓛 (raw (fact 𝓤 (d ≡ fresh_draft fresh_tally))) (said 𝓛 mem run d) $
         heard ! (d ≡ fresh_draft fresh_tally) (λ e. split ! $ move ! (1 ∷ []) $

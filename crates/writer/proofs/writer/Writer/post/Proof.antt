@@ -55,7 +55,7 @@ use Rattle.writer.specs.declared.writer.Writer.{Writer}
 use Rattle.layout.specs.contracts.verdict.Verdict as Vd
 use Rattle.layout.proofs.verdict.Verdict.TheLaws as Vd'
 use Rattle.writer.proofs.Held as held
-use Rattle.writer.proofs.Held.{verdict_val, draft_val, writer_val, verdict-is, filled-fits, draft-is, slice_at, writer-at, second, Row}
+use Rattle.writer.proofs.Held.{verdict_val, draft_val, writer_val, verdict_is, filled_fits, draft_is, slice_at, writer_at, second, Row}
 use Rattle.pages.specs.contracts.draft.Draft as D
 use Rattle.pages.proofs.draft.Draft.TheLaws as D'
 use Rattle.pages.specs.contracts.page.Taken as K
@@ -92,7 +92,7 @@ module _ {M : Type 1} {𝓤 : Ura M} (𝓛 : Logic 𝓤) (at_mem : Memory → SP
 
   -- the record with the list l, the filled length m and the draft c
   abbrev h : List ℕ → ℕ → Draft → Writer
-  h = writer-at b' o' γ'
+  h = writer_at b' o' γ'
 
   abbrev Arg : Type 0
   Arg = Bor Writer × (Bor (List ℕ) × Unit {0})
@@ -144,10 +144,10 @@ module _ {M : Type 1} {𝓤 : Ura M} (𝓛 : Logic 𝓤) (at_mem : Memory → SP
 
   goes : n < 2 ^ 64 → Is D.the_row d (draft_val d ∷ []) → (ν : ℕ) (δ : GName) → Asked
       → ent 𝓤 (⋆ 𝓛 (tokens ν ∷ ‵ (Lent ν δ) ∷ ‵ Shr ∷ [])) ((TakePost 𝓛 at_mem run).pre (to_take ν δ))
-  goes n-fits d-is ν δ sound =
+  goes n_fits d_is ν δ sound =
       qed 𝓛 (tokens ν ∷ ‵ (Lent ν δ) ∷ ‵ Shr ∷ []) ∵ says ! sound $ frame ! $
-      nothing ! $ move ! (2 ∷ 0 ∷ []) $ fjoin ! $ owned ! D.the_row (Is D.the_row) (LL.makes D.the_type D'.the_plain 𝓛) d _ d-is $ fjoin ! $
-      owned ! usize (Is usize) (uint_Makes 𝓛 w64) n _ (refl, n-fits) $ fjoin ! $ move ! (1 ∷ 0 ∷ []) $ fjoin ! $ done !
+      nothing ! $ move ! (2 ∷ 0 ∷ []) $ fjoin ! $ owned ! D.the_row (Is D.the_row) (LL.makes D.the_type D'.the_plain 𝓛) d _ d_is $ fjoin ! $
+      owned ! usize (Is usize) (uint_Makes 𝓛 w64) n _ (refl, n_fits) $ fjoin ! $ move ! (1 ∷ 0 ∷ []) $ fjoin ! $ done !
 
   -- what is had at exit
   abbrev left : Taken → List ℕ → List (Item 𝓤)
@@ -189,14 +189,14 @@ module _ {M : Type 1} {𝓤 : Ura M} (𝓛 : Logic 𝓤) (at_mem : Memory → SP
         assigns ! (agg ! (and_then ! (load ! (from ! (stop !)) (look ! 15 refl)) (and_then ! (load ! (from ! (stop !)) (look ! 17 refl)) (no_more !)))) (from ! (stop !))
         (init ! 13 refl (tt, (tt, (record { fits = (held.room κ' b' o' γ' ys n d g).0 }, tt)))) $
         assigns ! (of_opd ! (load ! (from ! (hop ! (look ! 23 refl) (fld ! refl (stop !)))) (look_in ! 0 (sub ! 1 refl (whole !))))) (from ! (stop !))
-        (init ! 11 refl (tt, record { fits = held.n-fits κ' b' o' γ' ys n d g })) $
+        (init ! 11 refl (tt, record { fits = held.n_fits κ' b' o' γ' ys n d g })) $
         assigns ! (of_opd ! (load ! (from ! (hop ! (look ! 23 refl) (fld ! refl (stop !)))) (look_in ! 0 (sub ! 2 refl (whole !))))) (from ! (stop !))
-        (init ! 9 refl ((LL.lawful D.the_type D'.the_laws 𝓛).typed d _ (held.d-is κ' b' o' γ' ys n d g)).0) $
+        (init ! 9 refl ((LL.lawful D.the_type D'.the_laws 𝓛).typed d _ (held.d_is κ' b' o' γ' ys n d g)).0) $
         -- the Writer's slice is lent again for a lifetime ν of the call
         move ! (5 ∷ []) $ split ! $ lft_new ! tt (λ ν. move ! (4 ∷ 1 ∷ []) $
         use2 𝓛 (later (some (λ (δ : GName). ‵ (Lent ν δ) ⊛ ‵ (Keeps ν δ)))) (held.lends κ' b' o' γ' ys 𝓛 q' ν n d) $ await ! tt $ pick ! (λ δ. split ! $
         move ! (2 ∷ 3 ∷ []) $ join ! $ move ! (0 ∷ 1 ∷ 7 ∷ []) $ use3 𝓛 (raw ((TakePost 𝓛 at_mem run).pre (to_take ν δ)))
-        (goes (held.n-fits κ' b' o' γ' ys n d g) (held.d-is κ' b' o' γ' ys n d g) ν δ sound) $
+        (goes (held.n_fits κ' b' o' γ' ys n d g) (held.d_is κ' b' o' γ' ys n d g) ν δ sound) $
         -- [what the call asks; what is kept of the slice; the struct's cell; the open borrow; obs; auth; the post's; true; _8; …]
         calls_at ! fm (TakePost 𝓛 at_mem run) known (to_take ν δ) (and_then ! (load ! (from ! (stop !)) (look ! 12 refl)) (and_then ! (load ! (from ! (stop !)) (look ! 10 refl))
         (and_then ! (load ! (from ! (stop !)) (look ! 8 refl)) (and_then ! (load ! (from ! (stop !)) (look ! 20 refl)) (no_more !))))) (λ w.
@@ -214,15 +214,15 @@ module _ {M : Type 1} {𝓤 : Ura M} (𝓛 : Logic 𝓤) (at_mem : Memory → SP
         move ! (1 ∷ []) $ split ! $ lft_end ! tt $ move ! (0 ∷ 5 ∷ 3 ∷ []) $ use3 𝓛
         (later (‵ (R.own_val (h zs.0 r.filled r.draft) (mach r.filled r.draft ∷ [])) ⊛ ‵ (flft κ' q')))
         (held.comes_home κ' b' o' γ' ys 𝓛 q' ν δ zs.0 r.filled r.draft (held.room κ' b' o' γ' ys n d g) l
-        (filled-fits r w is) (draft-is r w is)) $ await ! tt $ split ! $
+        (filled_fits r w is) (draft_is r w is)) $ await ! tt $ split ! $
         -- [what the Writer owns; the inner token; the post's token; the Taken's; …; the struct's cell; the open borrow; obs; auth; the post's; true;
         -- _8; …; _3; …; _2; …; _1; …; room for _0; …]
         assigns ! (of_opd ! (load ! (from ! (fld ! refl (stop !))) (look_in ! 21 (sub ! 1 refl (whole !))))) (from ! (hop ! (look ! 25 refl) (fld ! refl (stop !))))
-        (store_in ! 5 (sub ! 1 refl (whole !)) (tt, record { fits = filled-fits r w is })) $
+        (store_in ! 5 (sub ! 1 refl (whole !)) (tt, record { fits = filled_fits r w is })) $
         assigns ! (of_opd ! (load ! (from ! (fld ! refl (stop !))) (look_in ! 21 (sub ! 2 refl (whole !))))) (from ! (hop ! (look ! 25 refl) (fld ! refl (stop !))))
-        (store_in ! 5 (sub ! 2 refl (whole !)) ((LL.lawful D.the_type D'.the_laws 𝓛).typed r.draft _ (draft-is r w is)).0) $
+        (store_in ! 5 (sub ! 2 refl (whole !)) ((LL.lawful D.the_type D'.the_laws 𝓛).typed r.draft _ (draft_is r w is)).0) $
         assigns ! (of_opd ! (load ! (from ! (fld ! refl (stop !))) (look_in ! 21 (sub ! 0 refl (whole !))))) (from ! (stop !))
-        (init ! 27 refl ((EL.lawful Vd.the_type Vd'.the_laws 𝓛 tt).typed r.verdict _ (verdict-is r w is)).0) $
+        (init ! 27 refl ((EL.lawful Vd.the_type Vd'.the_laws 𝓛 tt).typed r.verdict _ (verdict_is r w is)).0) $
         -- the outer borrow is closed
         move ! (5 ∷ []) $ use1 𝓛 (‵ (cell_at full_share R.mir (mach r.filled r.draft ∷ []) b o)) (𝓛.laws.at_raw full_share (T'.mir erased) b o (mach r.filled r.draft)) $
         move ! (0 ∷ 1 ∷ 6 ∷ 7 ∷ 8 ∷ []) $ closes ! tt R (h zs.0 r.filled r.draft) (mach r.filled r.draft ∷ []) b o $
@@ -230,14 +230,14 @@ module _ {M : Type 1} {𝓤 : Ura M} (𝓛 : Logic 𝓤) (at_mem : Memory → SP
         forget ! 25 refl $
         move ! (25 ∷ 26 ∷ []) $ free1 ! $ move ! (23 ∷ 24 ∷ []) $ free1 ! $ move ! (21 ∷ 22 ∷ []) $ free1 ! $ move ! (19 ∷ 20 ∷ []) $ free1 ! $ move ! (17 ∷ 18 ∷ []) $ free1 ! $
         move ! (15 ∷ 16 ∷ []) $ free1 ! $ move ! (13 ∷ 14 ∷ []) $ free1 ! $ move ! (11 ∷ 12 ∷ []) $ free1 ! $ move ! (9 ∷ 10 ∷ []) $ free1 ! $ free0 ! $
-        keep ! (0 ∷ 1 ∷ 2 ∷ 3 ∷ 4 ∷ 7 ∷ []) $ by ! (exits r zs.0 (verdict-is r w is) e))))))))))))))))))))
+        keep ! (0 ∷ 1 ∷ 2 ∷ 3 ∷ 4 ∷ 7 ∷ []) $ by ! (exits r zs.0 (verdict_is r w is) e))))))))))))))))))))
 
 module _ {M : Type 1} {𝓤 : Ura M} (𝓛 : Logic 𝓤) (mem : Memory → SProp 𝓤) (run : Routine → Fun 𝓤) where
   open 𝓛 use {H}
 
-  post-walks : (C : Calls 𝓤 H) (Λ : Loops 𝓤 H) → FmC 𝓤 H 𝓛.laws C → Triple 𝓤 (C #take-post) (TakePost 𝓛 mem run)
+  post_walks : (C : Calls 𝓤 H) (Λ : Loops 𝓤 H) → FmC 𝓤 H 𝓛.laws C → Triple 𝓤 (C #take-post) (TakePost 𝓛 mem run)
       → Walks 𝓛 post.ended stayed (WpFn 𝓤 H C Λ code.function) (post.clauses 𝓛 mem run)
-  post-walks C Λ fm known = walked 𝓛 post.ended stayed (post.clauses 𝓛 mem run) (WpFn 𝓤 H C Λ code.function) (λ κs. (shr_vals, (shr_slice_vals, tt)))
+  post_walks C Λ fm known = walked 𝓛 post.ended stayed (post.clauses 𝓛 mem run) (WpFn 𝓤 H C Λ code.function) (λ κs. (shr_vals, (shr_slice_vals, tt)))
       (λ κs. (mut_Tells (named 0) κs.0 (T.the_row (named_lft 3 1 tt κs)), (shr_slice_Tells (named 2) κs.1.1.0 u8, tt)))
       (λ κs qs bounds a g are. needs 𝓤 (Sound (page a.0.now)) _
       (walk 𝓛 mem run κs.0 κs.1.0 κs.1.1.0 bounds qs.0 qs.1.0 qs.1.1.0 a.0.ptr.0 a.0.ptr.1 a.0.name
@@ -248,7 +248,7 @@ post_meets : {M : Type 1} {𝓤 : Ura M} (𝓛 : Logic 𝓤) → (mem : Memory �
     → Triple 𝓤 (𝓣.C #take-post) (TakePost 𝓛 mem run) → Meets 𝓛 post.signature (WpFn 𝓤 𝓛.H 𝓣.C 𝓣.Λ code.function) (post.spec 𝓛 mem run)
 post_meets {𝓤 = 𝓤} 𝓛 mem run 𝓣 known =
     walk_Meets 𝓛 post.ended stayed (Goes-ref 𝓛 3 0 tt WriterS, (Goes-none_slice 𝓛 3 (2 ∷ []) tt (plain (λ _. u8)) yes, tt)) (post.clauses 𝓛 mem run)
-    (WpFn 𝓤 𝓛.H 𝓣.C 𝓣.Λ code.function) (WpFn-mono 𝓤 𝓛.H 𝓛.laws 𝓣 code.function) (post-walks 𝓛 mem run 𝓣.C 𝓣.Λ (fm_of 𝓤 𝓛.H 𝓛.laws 𝓣) known)
+    (WpFn 𝓤 𝓛.H 𝓣.C 𝓣.Λ code.function) (WpFn-mono 𝓤 𝓛.H 𝓛.laws 𝓣 code.function) (post_walks 𝓛 mem run 𝓣.C 𝓣.Λ (fm_of 𝓤 𝓛.H 𝓛.laws 𝓣) known)
 
 pub post-spec : {M : Type 1} → stated.statement M
 unfolding code.routine tables_of
