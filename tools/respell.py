@@ -63,6 +63,12 @@ def table():
         if name in LEMMAS:
             rows[name] = name.replace("-", "_") + "_lem"
             continue
+        if "◌" in name:
+            for part in name.split("◌"):
+                if snake(part) != part:
+                    rows[part] = snake(part)
+                    rows[name] = snake(name)
+            continue
         if name in KEPT or not (name[0].islower() or "-" in name):
             continue
         parts = [snake(p) for p in name.split("-")]

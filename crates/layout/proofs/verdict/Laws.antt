@@ -12,11 +12,11 @@ use Rattle.layout.specs.declared.verdict.Verdict.{Verdict}
 use Rattle.layout.specs.declared.verdict.Verdict.TheVariants.{Accepted, Declined}
 
 -- what a branch on a test's negation tells of the test
-pub holds : {r t : Bool} → r ≡ t → not r ≡ false → t ≡ true
-holds {r} e n = sym e ∙ not-false r n
+pub holds : {r t : Bool} → r ≡ t → r ≡ true → t ≡ true
+holds e n = sym e ∙ n
 
-pub misses : {r t : Bool} → r ≡ t → not r ≡ true → t ≡ false
-misses {r} e n = sym e ∙ not-true r n
+pub misses : {r t : Bool} → r ≡ t → r ≡ false → t ≡ false
+misses e n = sym e ∙ n
 
 module _ {A : Type 0} where
   -- a check that passes is left behind

@@ -2,6 +2,7 @@ use mathlib.Core.Bool.{true}
 use mathlib.Core.Path.{◌≡◌}
 use Prim.Native.Nat.{ℕ}
 use lib.Ieee.{Float}
+use borrow.Author.Rules.{rules}
 use Rattle.forms.specs.Pattern.{in_range}
 use Rattle.forms.specs.Steps.{inputs_of}
 use Rattle.forms.specs.declared.pattern.Range.{Range}
@@ -17,64 +18,77 @@ In range bits x = (in_range range (value_of bits) ≡ true) × (x ≡ value_of b
 pub read_upward-requires : goal.read_upward-requires
 read_upward-requires c = c.pre.0
 
+-- NEED? enum-known-wx
+-- enum-known-wx : tie.Need-enum-known-wx
+-- enum-known-wx c = search rules
+
+-- NEED? enum-told
+-- enum_told : tie.Need-enum-told
+-- enum_told c = search rules
+
 pub returns-in_default : goal.returns-in_default
 unfolding inputs_of
-returns-in_default c = rw (refused _ _ _ _ c.read_upward.ensures c.enum_told-1.given.1)
+returns-in_default c = rw (refused _ _ _ _ c.read_upward.ensures c.in_default.is)
 
 pub read_upward-requires-2 : goal.read_upward-requires-2
-read_upward-requires-2 c =
-    let start1 : tie.Start = c in
-    start1.pre.1.0
+read_upward-requires-2 c = c.pre.1.0
+
+-- NEED? enum-known-ux
+-- enum-known-ux : tie.Need-enum-known-ux
+-- enum-known-ux c = search rules
+
+-- NEED? enum-told-2
+-- enum-told-2 : tie.Need-enum-told-2
+-- enum-told-2 c = search rules
 
 pub returns-in_default-read_upward : goal.returns-in_default-read_upward
 unfolding inputs_of
 returns-in_default-read_upward c =
-    let start1 : tie.Start = c in
-    let w_in : let a = start1.args in In a.ranges.w a.w c.wx-1.given.0.0 = read _ _ _ _ c.read_upward.ensures c.wx-1.given.1 in
-    rw (w_in.0, refused _ _ _ _ c.read_upward-2.ensures c.enum_told-in_default-read_upward-1.given.1)
+    let w_in : let a = c.args in In a.ranges.w a.w c.in-Value.wx = read _ _ _ _ c.read_upward.ensures c.in-Value.is in
+    rw (w_in.0, refused _ _ _ _ c.read_upward-2.ensures c.in_default-read_upward.is)
 
 pub read_upward-requires-3 : goal.read_upward-requires-3
-read_upward-requires-3 c =
-    let start1 : tie.Start = c in
-    let start2 : tie.Start = start1 in
-    start2.pre.1.1.0
+read_upward-requires-3 c = c.pre.1.1.0
+
+-- NEED? enum-known-px
+-- enum-known-px : tie.Need-enum-known-px
+-- enum-known-px c = search rules
+
+-- NEED? enum-told-3
+-- enum-told-3 : tie.Need-enum-told-3
+-- enum-told-3 c = search rules
 
 pub returns-in_default-read_upward-2 : goal.returns-in_default-read_upward-2
 unfolding inputs_of
 returns-in_default-read_upward-2 c =
-    let start1 : tie.Start = c in
-    let start2 : tie.Start = start1 in
-    let w_in : let a = start1.args in In a.ranges.w a.w c.wx-1.given.0.0 = read _ _ _ _ c.read_upward.ensures c.wx-1.given.1 in
-    let u_in : let a = start2.args in In a.ranges.u a.u c.ux-1.given.0.0 = read _ _ _ _ c.read_upward-2.ensures c.ux-1.given.1 in
-    rw (w_in.0, u_in.0, refused _ _ _ _ c.read_upward-3.ensures c.enum_told-in_default-read_upward-2-1.given.1)
+    let w_in : let a = c.args in In a.ranges.w a.w c.in-Value.wx = read _ _ _ _ c.read_upward.ensures c.in-Value.is in
+    let u_in : let a = c.args in In a.ranges.u a.u c.in-Value-read_upward.ux = read _ _ _ _ c.read_upward-2.ensures c.in-Value-read_upward.is in
+    rw (w_in.0, u_in.0, refused _ _ _ _ c.read_upward-3.ensures c.in_default-read_upward-2.is)
 
 pub read_upward-requires-4 : goal.read_upward-requires-4
-read_upward-requires-4 c =
-    let start1 : tie.Start = c in
-    let start2 : tie.Start = start1 in
-    let start3 : tie.Start = start2 in
-    start3.pre.1.1.1
+read_upward-requires-4 c = c.pre.1.1.1
+
+-- NEED? enum-known-qx
+-- enum-known-qx : tie.Need-enum-known-qx
+-- enum-known-qx c = search rules
+
+-- NEED? enum-told-4
+-- enum-told-4 : tie.Need-enum-told-4
+-- enum-told-4 c = search rules
 
 pub returns-in_default-read_upward-3 : goal.returns-in_default-read_upward-3
 unfolding inputs_of
 returns-in_default-read_upward-3 c =
-    let start1 : tie.Start = c in
-    let start2 : tie.Start = start1 in
-    let start3 : tie.Start = start2 in
-    let w_in : let a = start1.args in In a.ranges.w a.w c.wx-1.given.0.0 = read _ _ _ _ c.read_upward.ensures c.wx-1.given.1 in
-    let u_in : let a = start2.args in In a.ranges.u a.u c.ux-1.given.0.0 = read _ _ _ _ c.read_upward-2.ensures c.ux-1.given.1 in
-    let p_in : let a = start3.args in In a.ranges.p a.p c.px-1.given.0.0 = read _ _ _ _ c.read_upward-3.ensures c.px-1.given.1 in
-    rw (w_in.0, u_in.0, p_in.0, refused _ _ _ _ c.read_upward-4.ensures c.enum_told-in_default-read_upward-3-1.given.1)
+    let w_in : let a = c.args in In a.ranges.w a.w c.in-Value.wx = read _ _ _ _ c.read_upward.ensures c.in-Value.is in
+    let u_in : let a = c.args in In a.ranges.u a.u c.in-Value-read_upward.ux = read _ _ _ _ c.read_upward-2.ensures c.in-Value-read_upward.is in
+    let p_in : let a = c.args in In a.ranges.p a.p c.in-Value-read_upward-2.px = read _ _ _ _ c.read_upward-3.ensures c.in-Value-read_upward-2.is in
+    rw (w_in.0, u_in.0, p_in.0, refused _ _ _ _ c.read_upward-4.ensures c.in_default-read_upward-3.is)
 
 pub returns : goal.returns
 unfolding inputs_of
 returns c =
-    let start1 : tie.Start = c in
-    let start2 : tie.Start = start1 in
-    let start3 : tie.Start = start2 in
-    let start4 : tie.Start = start3 in
-    let w_in : let a = start1.args in In a.ranges.w a.w c.wx-1.given.0.0 = read _ _ _ _ c.read_upward.ensures c.wx-1.given.1 in
-    let u_in : let a = start2.args in In a.ranges.u a.u c.ux-1.given.0.0 = read _ _ _ _ c.read_upward-2.ensures c.ux-1.given.1 in
-    let p_in : let a = start3.args in In a.ranges.p a.p c.px-1.given.0.0 = read _ _ _ _ c.read_upward-3.ensures c.px-1.given.1 in
-    let q_in : let a = start4.args in In a.ranges.q a.q c.qx-1.given.0.0 = read _ _ _ _ c.read_upward-4.ensures c.qx-1.given.1 in
+    let w_in : let a = c.args in In a.ranges.w a.w c.in-Value.wx = read _ _ _ _ c.read_upward.ensures c.in-Value.is in
+    let u_in : let a = c.args in In a.ranges.u a.u c.in-Value-read_upward.ux = read _ _ _ _ c.read_upward-2.ensures c.in-Value-read_upward.is in
+    let p_in : let a = c.args in In a.ranges.p a.p c.in-Value-read_upward-2.px = read _ _ _ _ c.read_upward-3.ensures c.in-Value-read_upward-2.is in
+    let q_in : let a = c.args in In a.ranges.q a.q c.in-Value-read_upward-3.qx = read _ _ _ _ c.read_upward-4.ensures c.in-Value-read_upward-3.is in
     rw (w_in.0, u_in.0, p_in.0, q_in.0, w_in.1, u_in.1, p_in.1, q_in.1)
