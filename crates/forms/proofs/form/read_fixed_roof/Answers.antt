@@ -1,12 +1,10 @@
 use lib.Ieee.{of_bits, round}
-use borrow.Author.Rules.{rules}
 use Rattle.forms.specs.Form.{fixed_ranges, form_of}
 use Rattle.forms.specs.declared.form.Inputs.{Inputs}
 use Rattle.forms.specs.declared.form.LossForm.{LossForm}
 use Rattle.forms.specs.declared.form.LossForm.TheVariants.{FixedRoof}
 use Rattle.forms.proofs.form.Laws.{fixed_upward, filled}
 use Rattle.forms.proofs.form.read_fixed_roof.Goals as goal
-use Rattle.forms.proofs.form.read_fixed_roof.Tie as tie
 
 abbrev of_inputs : Inputs → LossForm
 of_inputs x = FixedRoof x.w x.u x.p x.q
@@ -14,14 +12,6 @@ of_inputs x = FixedRoof x.w x.u x.p x.q
 pub read_inputs-requires : goal.read_inputs-requires
 unfolding of_bits round
 read_inputs-requires c = fixed_upward
-
--- NEED? enum-known-x
--- enum-known-x : tie.Need-enum-known-x
--- enum-known-x c = search rules
-
--- NEED? enum-known-d
--- enum-known-d : tie.Need-enum-known-d
--- enum-known-d c = search rules
 
 pub returns-in-Values : goal.returns-in-Values
 unfolding form_of of_bits round

@@ -2,44 +2,26 @@ use mathlib.Core.Bool.{true}
 use mathlib.Core.Path.{◌≡◌}
 use Prim.Native.Nat.{ℕ}
 use lib.Ieee.{Float}
-use borrow.Author.Rules.{rules}
 use Rattle.forms.specs.Pattern.{in_range}
 use Rattle.forms.specs.Steps.{inputs_of}
 use Rattle.forms.specs.declared.pattern.Range.{Range}
 use Rattle.forms.specs.Binary64.{value_of}
 use Rattle.forms.proofs.pattern.Laws.{read, refused}
 use Rattle.forms.proofs.form.read_inputs.Goals as goal
-use Rattle.forms.proofs.form.read_inputs.Tie as tie
 
 -- the bits' value is in the range and is the float read
 abbrev In : Range → ℕ → Float → Type 0
 In range bits x = (in_range range (value_of bits) ≡ true) × (x ≡ value_of bits)
 
 pub read_upward-requires : goal.read_upward-requires
-read_upward-requires c = c.pre.0
-
--- NEED? enum-known-wx
--- enum-known-wx : tie.Need-enum-known-wx
--- enum-known-wx c = search rules
-
--- NEED? enum-told
--- enum_told : tie.Need-enum-told
--- enum_told c = search rules
+read_upward-requires c = c.requires.0
 
 pub returns-in_default : goal.returns-in_default
 unfolding inputs_of
 returns-in_default c = rw (refused _ _ _ _ c.read_upward.ensures c.in_default.is)
 
 pub read_upward-requires-2 : goal.read_upward-requires-2
-read_upward-requires-2 c = c.pre.1.0
-
--- NEED? enum-known-ux
--- enum-known-ux : tie.Need-enum-known-ux
--- enum-known-ux c = search rules
-
--- NEED? enum-told-2
--- enum-told-2 : tie.Need-enum-told-2
--- enum-told-2 c = search rules
+read_upward-requires-2 c = c.requires.1.0
 
 pub returns-in_default-read_upward : goal.returns-in_default-read_upward
 unfolding inputs_of
@@ -48,15 +30,7 @@ returns-in_default-read_upward c =
     rw (w_in.0, refused _ _ _ _ c.read_upward-2.ensures c.in_default-read_upward.is)
 
 pub read_upward-requires-3 : goal.read_upward-requires-3
-read_upward-requires-3 c = c.pre.1.1.0
-
--- NEED? enum-known-px
--- enum-known-px : tie.Need-enum-known-px
--- enum-known-px c = search rules
-
--- NEED? enum-told-3
--- enum-told-3 : tie.Need-enum-told-3
--- enum-told-3 c = search rules
+read_upward-requires-3 c = c.requires.1.1.0
 
 pub returns-in_default-read_upward-2 : goal.returns-in_default-read_upward-2
 unfolding inputs_of
@@ -66,15 +40,7 @@ returns-in_default-read_upward-2 c =
     rw (w_in.0, u_in.0, refused _ _ _ _ c.read_upward-3.ensures c.in_default-read_upward-2.is)
 
 pub read_upward-requires-4 : goal.read_upward-requires-4
-read_upward-requires-4 c = c.pre.1.1.1
-
--- NEED? enum-known-qx
--- enum-known-qx : tie.Need-enum-known-qx
--- enum-known-qx c = search rules
-
--- NEED? enum-told-4
--- enum-told-4 : tie.Need-enum-told-4
--- enum-told-4 c = search rules
+read_upward-requires-4 c = c.requires.1.1.1
 
 pub returns-in_default-read_upward-3 : goal.returns-in_default-read_upward-3
 unfolding inputs_of

@@ -1,12 +1,10 @@
 use lib.Ieee.{of_bits, round}
-use borrow.Author.Rules.{rules}
 use Rattle.forms.specs.Form.{station_ranges, form_of}
 use Rattle.forms.specs.declared.form.Inputs.{Inputs}
 use Rattle.forms.specs.declared.form.LossForm.{LossForm}
 use Rattle.forms.specs.declared.form.LossForm.TheVariants.{Station}
 use Rattle.forms.proofs.form.Laws.{station_upward, filled}
 use Rattle.forms.proofs.form.read_station.Goals as goal
-use Rattle.forms.proofs.form.read_station.Tie as tie
 
 abbrev of_inputs : Inputs → LossForm
 of_inputs x = Station x.w x.u x.p x.q
@@ -14,14 +12,6 @@ of_inputs x = Station x.w x.u x.p x.q
 pub read_inputs-requires : goal.read_inputs-requires
 unfolding of_bits round
 read_inputs-requires c = station_upward
-
--- NEED? enum-known-x
--- enum-known-x : tie.Need-enum-known-x
--- enum-known-x c = search rules
-
--- NEED? enum-known-d
--- enum-known-d : tie.Need-enum-known-d
--- enum-known-d c = search rules
 
 pub returns-in-Values : goal.returns-in-Values
 unfolding form_of of_bits round

@@ -4,9 +4,7 @@ use Rattle.amounts.specs.Decline.{taken, checked}
 use Rattle.layout.specs.Frame.{frame_checks}
 use Rattle.layout.proofs.frame.Laws.{framed, not_held, is_held}
 use Rattle.layout.proofs.verdict.Laws.{accepts, declines}
-use borrow.Author.Rules.{rules}
 use Rattle.layout.proofs.frame.read_frame.Goals as goal
-use Rattle.layout.proofs.frame.read_frame.Tie as tie
 
 -- NEED? enum-known-d
 -- enum-known-d : tie.Need-enum-known-d

@@ -17,4 +17,4 @@ returns-in-3 c = known c.args.kind 3 _ c.in-3.is refl
 
 pub returns-in_default : goal.returns-in_default
 unfolding rows
-returns-in_default c = unknown c.args.kind c.in_default.rest
+returns-in_default c = unknown c.args.kind c.in_default.in_default-own.rest

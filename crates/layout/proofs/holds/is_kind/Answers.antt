@@ -1,9 +1,7 @@
 use mathlib.Core.Path.{sym, ap, ◌∙◌}
 use Rattle.amounts.specs.Decline.{is_taken}
 use Rattle.layout.specs.Holds.{answer}
-use borrow.Author.Rules.{rules}
 use Rattle.layout.proofs.holds.is_kind.Goals as goal
-use Rattle.layout.proofs.holds.is_kind.Tie as tie
 
 -- NEED? enum-told
 -- enum_told : tie.Need-enum-told
