@@ -5,6 +5,7 @@ ghost use Rattle.book.specs.Site.{Sound};
 
 use journal::reading;
 use journal::reading::Reading;
+use std::io::{Stderr, Stdin, Stdout};
 use streams::input::Part;
 use streams::{input, output, trouble};
 use text::writing::Written;
@@ -16,11 +17,11 @@ struct Journal {
     is_read: bool,
 }
 
-fn read_journal() -> Journal
+fn read_journal(stdin: Stdin) -> Journal
     ensures { Sound result.reading.book }
 {
     let mut reading = reading::start();
-    let mut source = input::start();
+    let mut source = input::start(stdin);
     let mut space = [0u8; 512];
     while !reading::has_stopped(reading) {
         let taken = input::read_part(source, &mut space);
@@ -50,24 +51,24 @@ fn read_journal() -> Journal
 }
 
 // The text at the start of a buffer on standard output.
-fn show(out: &[u8], n: usize) {
+fn show(stdout: Stdout, stderr: Stderr, out: &[u8], n: usize) {
     if n <= out.len() {
-        let written = output::text(output::start(), &out[..n]);
+        let written = output::text(output::start(stdout), &out[..n]);
         if output::has_failed(written) {
-            trouble::unwritten(b"filing");
+            trouble::unwritten(stderr, b"filing");
         }
     }
 }
 
-fn main() {
-    let journal = read_journal();
+fn main(rt: HostRuntime) {
+    let journal = read_journal(rt.stdin());
     if !journal.is_read {
-        trouble::unread(b"filing");
+        trouble::unread(rt.stderr(), b"filing");
         return;
     }
     let reading = journal.reading;
     let mut out = [0u8; 1336];
     if let Written::At(n) = reading::print(reading, &mut out) {
-        show(&out, n);
+        show(rt.stdout(), rt.stderr(), &out, n);
     }
 }

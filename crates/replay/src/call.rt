@@ -9,6 +9,7 @@ use book::site::Book;
 use book::{block, posts};
 use encoding::bytes;
 use report::report::report_of;
+use std::io::Stderr;
 use stock::sheet::difference_of;
 use streams::output::Output;
 use streams::record::Record;
@@ -111,7 +112,7 @@ fn call(b: Book, o: Output, tag: u8, s: &[u8]) -> State
 }
 
 // What a record that was read answers; a whole one stands in the space.
-pub(crate) fn answer(b: Book, o: Output, r: Record, space: &[u8]) -> State
+pub(crate) fn answer(b: Book, o: Output, stderr: Stderr, r: Record, space: &[u8]) -> State
     requires sound { Sound b }
     requires within { Within (length space.now) r }
     ensures sound_2 { Sound result.book }
@@ -122,7 +123,7 @@ pub(crate) fn answer(b: Book, o: Output, r: Record, space: &[u8]) -> State
         Record::Malformed => malformed(b, o),
         Record::End => closed(b, o),
         Record::Failed => {
-            trouble::unread(b"replay");
+            trouble::unread(stderr, b"replay");
             closed(b, o)
         }
     }

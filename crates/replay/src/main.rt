@@ -7,22 +7,22 @@ mod line;
 use book::site;
 use streams::{input, output, record, trouble};
 
-fn main() {
+fn main(rt: HostRuntime) {
     let mut book = site::fresh();
-    let mut source = input::start();
-    let mut sink = output::start();
-    let mut space = io::large_buffer();
+    let mut source = input::start(rt.stdin());
+    let mut sink = output::start(rt.stdout());
+    let mut space = [0u8; 65536];
     let mut is_open = true;
     while is_open {
         let found = record::next(source, &mut space);
         source = found.input;
         let record = found.record;
-        let state = call::answer(book, sink, record, &space);
+        let state = call::answer(book, sink, rt.stderr(), record, &space);
         book = state.book;
         sink = state.output;
         is_open = state.is_open;
     }
     if output::has_failed(sink) {
-        trouble::unwritten(b"replay");
+        trouble::unwritten(rt.stderr(), b"replay");
     }
 }

@@ -1,6 +1,5 @@
 -- Standard input, a part at a time. What a read brings, no contract says; what is said of its answer is.
-use Rattle.std.specs.Prelude.{ℕ, ◌+◌, ◌-◌, ◌^◌, ◌<◌, min, ◌≡◌, Bool, false, cond, List, eqb, ℤ, pos, negsuc, length, take}
-use Rattle.libc.specs.Io.{Moved}
+use Rattle.std.specs.Prelude.{ℕ, ◌+◌, ◌-◌, ◌^◌, ◌<◌, ◌≤◌, min, ◌≡◌, Bool, false, cond, List, eqb, ℤ, pos, negsuc, length, take}
 use Rattle.streams.specs.declared.input.Part.{Part}
 use Rattle.streams.specs.declared.input.Part.TheVariants.{Full, Short, End, Failed}
 use Rattle.streams.specs.declared.input.Progress.{Progress}
@@ -8,6 +7,11 @@ use Rattle.streams.specs.declared.input.Progress.TheVariants.{More, Done}
 use Rattle.streams.specs.declared.input.Taken.{Taken}
 
 -- ---- one read
+
+-- what a read into so many bytes may answer: -1, or how many it moved, at most all of them
+abbrev pub Moved : ℕ → ℤ → Type 0
+Moved n (pos k) = k ≤ n
+Moved n (negsuc k) = k ≡ 0
 
 abbrev pub is_number : ℕ → ℤ → Bool
 is_number n (pos k) = eqb k n

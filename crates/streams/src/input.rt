@@ -1,9 +1,8 @@
 // Standard input, a part at a time.
 ghost use Rattle.std.specs.Prelude.{◌≡◌, ◌-◌, ◌≤◌, length, take};
-ghost use Rattle.libc.specs.Io.{Moved};
-ghost use Rattle.streams.specs.Input.{most_parts, was_interrupted, Behind, progress_of, after_read, Filled, Reads, bytes_in};
+ghost use Rattle.streams.specs.Input.{Moved, most_parts, was_interrupted, Behind, progress_of, after_read, Filled, Reads, bytes_in};
 
-use libc::STDIN_FILENO;
+use std::io::{Error, Read, Stdin};
 
 // What became of a part that was asked for: all its bytes, the last few before the end, the end, or an input that can't be read.
 #[derive(Clone, Copy)]
@@ -17,6 +16,7 @@ pub enum Part {
 // How many parts may still be asked for: a program ends, and nothing says that its input does.
 #[derive(Clone, Copy)]
 pub struct Input {
+    from: Stdin,
     left: u64,
 }
 
@@ -33,13 +33,24 @@ enum Progress {
     Done(Part),
 }
 
+// What one read answers: how many bytes it brought, or -1 and the system's number for what failed.
+#[derive(Clone, Copy)]
+struct Answer {
+    got: isize,
+    error: i32,
+}
+
+// The system's number for a signal that interrupted a call.
+const EINTR: i32 = 4;
+
 // How often a read that a signal interrupts is tried.
 const TRIES: u32 = 100;
 
-pub fn start() -> Input
+pub fn start(from: Stdin) -> Input
     ensures { result.left ≡ most_parts }
 {
     Input {
+        from,
         left: 18_446_744_073_709_551_615,
     }
 }
@@ -50,19 +61,42 @@ fn is_interrupted(got: isize, error: i32) -> bool
     if got >= 0 {
         return false;
     }
-    error == libc::EINTR
+    error == EINTR
+}
+
+// The system's number for an error; any other error has none.
+fn number_of(e: Error) -> i32 {
+    e.raw_os_error().unwrap_or(0)
+}
+
+// One read.
+fn read_once(from: Stdin, free: &mut [u8]) -> Answer
+    ensures moved { Moved (length free.old) result.got }
+    ensures free_len_unchanged { length free.new ≡ length free.old }
+{
+    let mut from = from;
+    match from.read(free) {
+        Ok(n) => Answer {
+            got: n as isize,
+            error: 0,
+        },
+        Err(e) => Answer {
+            got: -1,
+            error: number_of(e),
+        },
+    }
 }
 
 // One read, tried again where a signal interrupted it before it moved a byte.
-fn read_again(free: &mut [u8]) -> isize
+fn read_again(from: Stdin, free: &mut [u8]) -> isize
     ensures moved { Moved (length free.old) result }
     ensures free_len_unchanged { length free.new ≡ length free.old }
 {
     let mut tries = TRIES;
     while tries > 0 {
-        let got = libc::read(STDIN_FILENO, free);
-        if !is_interrupted(got, os::errno()) {
-            return got;
+        let answer = read_once(from, free);
+        if !is_interrupted(answer.got, answer.error) {
+            return answer.got;
         }
         tries -= 1;
     }
@@ -70,11 +104,11 @@ fn read_again(free: &mut [u8]) -> isize
 }
 
 // One read of what follows the bytes that are there.
-fn read_behind(part: &mut [u8], done: usize) -> isize
+fn read_behind(from: Stdin, part: &mut [u8], done: usize) -> isize
     requires { done ≤ length part.old }
     ensures { Behind done part.old part.new result }
 {
-    read_again(&mut part[done..])
+    read_again(from, &mut part[done..])
 }
 
 // A part that has all its bytes is full.
@@ -105,7 +139,7 @@ fn after_read(done: usize, room: usize, got: isize) -> Progress
 }
 
 // Reads until the part is full, the input ends or a read fails.
-fn fill(part: &mut [u8]) -> Part
+fn fill(from: Stdin, part: &mut [u8]) -> Part
     ensures { Filled part.old part.new result }
 {
     let room = part.len();
@@ -113,7 +147,7 @@ fn fill(part: &mut [u8]) -> Part
     loop {
         match progress {
             Progress::More(done) => {
-                let got = read_behind(part, done);
+                let got = read_behind(from, part, done);
                 progress = after_read(done, room, got);
             }
             Progress::Done(p) => return p,
@@ -132,10 +166,11 @@ pub fn read_part(from: Input, part: &mut [u8]) -> Taken
         };
     }
     let input = Input {
+        from: from.from,
         left: from.left - 1,
     };
     Taken {
-        part: fill(part),
+        part: fill(from.from, part),
         input,
     }
 }

@@ -2,17 +2,19 @@
 ghost use Rattle.std.specs.Prelude.{false, ◌≡◌};
 ghost use Rattle.streams.specs.Output.{Stays};
 
-use libc::STDOUT_FILENO;
+use crate::writing;
+use std::io::Stdout;
 
 #[derive(Clone, Copy)]
 pub struct Output {
+    to: Stdout,
     failed: bool,
 }
 
-pub fn start() -> Output
+pub fn start(to: Stdout) -> Output
     ensures { result.failed ≡ false }
 {
-    Output { failed: false }
+    Output { to, failed: false }
 }
 
 pub fn has_failed(o: Output) -> bool
@@ -27,9 +29,9 @@ pub fn text(o: Output, bytes: &[u8]) -> Output
     if o.failed {
         return o;
     }
-    Output {
-        failed: !io::write_all(STDOUT_FILENO, bytes),
-    }
+    let mut to = o.to;
+    let failed = !writing::all(&mut to, bytes);
+    Output { to, failed }
 }
 
 pub fn number(o: Output, n: u64) -> Output
@@ -38,7 +40,7 @@ pub fn number(o: Output, n: u64) -> Output
     if o.failed {
         return o;
     }
-    Output {
-        failed: !io::print_decimal(STDOUT_FILENO, n),
-    }
+    let mut to = o.to;
+    let failed = !writing::number(&mut to, n);
+    Output { to, failed }
 }

@@ -1,12 +1,15 @@
 // The line on standard error of a program whose input or output fails.
-use libc::STDERR_FILENO;
+use crate::writing;
+use std::io::Stderr;
 
-pub fn unread(program: &[u8]) {
-    io::write_all(STDERR_FILENO, program);
-    io::write_all(STDERR_FILENO, b": standard input can't be read\n");
+pub fn unread(to: Stderr, program: &[u8]) {
+    let mut to = to;
+    writing::all(&mut to, program);
+    writing::all(&mut to, b": standard input can't be read\n");
 }
 
-pub fn unwritten(program: &[u8]) {
-    io::write_all(STDERR_FILENO, program);
-    io::write_all(STDERR_FILENO, b": standard output can't be written\n");
+pub fn unwritten(to: Stderr, program: &[u8]) {
+    let mut to = to;
+    writing::all(&mut to, program);
+    writing::all(&mut to, b": standard output can't be written\n");
 }

@@ -1,34 +1,35 @@
 // Counted content: the class and the ppm, and what counts.
 use crate::line;
 use amounts::content::Counted;
+use std::io::Stdout;
 
-fn counted(class: u8, ppm: u32) {
-    line::number(class as u64);
-    line::number(ppm as u64);
+fn counted(out: Stdout, class: u8, ppm: u32) {
+    line::number(out, class as u64);
+    line::number(out, ppm as u64);
     match amounts::content::counted_content(class, ppm) {
-        Counted::Content(ppm) => line::last(ppm as u64),
-        Counted::Declined(d) => line::declined(d),
+        Counted::Content(ppm) => line::last(out, ppm as u64),
+        Counted::Declined(d) => line::declined(out, d),
     }
 }
 
-pub(crate) fn show_all() {
-    line::text(b"contents: class ppm, counted\n");
+pub(crate) fn show_all(out: Stdout) {
+    line::text(out, b"contents: class ppm, counted\n");
     // Document 000, 1.1.3: from 10,000 ppm in class 1 and from 1,000 ppm in class 2.
-    counted(1, 9_999);
-    counted(1, 10_000);
-    counted(2, 999);
-    counted(2, 1_000);
+    counted(out, 1, 9_999);
+    counted(out, 1, 10_000);
+    counted(out, 2, 999);
+    counted(out, 2, 1_000);
     // Each at the other's limit.
-    counted(1, 1_000);
-    counted(2, 9_999);
+    counted(out, 1, 1_000);
+    counted(out, 2, 9_999);
     // Ends of the ranges.
-    counted(1, 0);
-    counted(2, 0);
-    counted(1, 1_000_000);
-    counted(2, 1_000_000);
+    counted(out, 1, 0);
+    counted(out, 2, 0);
+    counted(out, 1, 1_000_000);
+    counted(out, 2, 1_000_000);
     // 6: another class, or more than 1,000,000 ppm.
-    counted(0, 10_000);
-    counted(3, 10_000);
-    counted(1, 1_000_001);
-    counted(2, 4_294_967_295);
+    counted(out, 0, 10_000);
+    counted(out, 3, 10_000);
+    counted(out, 1, 1_000_001);
+    counted(out, 2, 4_294_967_295);
 }

@@ -1,5 +1,6 @@
 // The filed figure: an amount in micrograms, the number of its case, its step, and the figure.
 use crate::line;
+use std::io::Stdout;
 
 const AMOUNTS: [u64; 62] = [
     // Slips of the trade.
@@ -77,19 +78,19 @@ const AMOUNTS: [u64; 62] = [
     18_446_744_073_709_551_615,
 ];
 
-fn show(amount: u64) {
+fn show(out: Stdout, amount: u64) {
     let case = amounts::filed::case_of(amount);
-    line::number(amount);
-    line::number(case.number as u64);
-    line::number(amounts::filed::step_of(amount));
-    line::last(amounts::filed::filed_figure(amount));
+    line::number(out, amount);
+    line::number(out, case.number as u64);
+    line::number(out, amounts::filed::step_of(amount));
+    line::last(out, amounts::filed::filed_figure(amount));
 }
 
-pub(crate) fn show_all() {
-    line::text(b"figures: amount, case, step, figure\n");
+pub(crate) fn show_all(out: Stdout) {
+    line::text(out, b"figures: amount, case, step, figure\n");
     let mut i: usize = 0;
     while i < 62 {
-        show(AMOUNTS[i]);
+        show(out, AMOUNTS[i]);
         i += 1;
     }
 }

@@ -1,28 +1,25 @@
 // The parts of a line: numbers and patterns, each with a space behind it, and the answer, which ends the line.
 use amounts::decline::Decline;
-use libc::STDOUT_FILENO;
+use std::io::{Print, Stdout};
 
-pub(crate) fn text(bytes: &[u8]) {
-    io::write_all(STDOUT_FILENO, bytes);
+pub(crate) fn text(out: Stdout, bytes: &[u8]) {
+    let _ = Print::write_all(&out, bytes);
 }
 
-pub(crate) fn number(n: u64) {
-    io::print_decimal(STDOUT_FILENO, n);
-    text(b" ");
+pub(crate) fn number(out: Stdout, n: u64) {
+    let _ = print!(out; "{n} ");
 }
 
 // The bits of a float, in 16 digits.
-pub(crate) fn pattern(bits: u64) {
-    io::print_hex(STDOUT_FILENO, bits, 16);
-    text(b" ");
+pub(crate) fn pattern(out: Stdout, bits: u64) {
+    let _ = print!(out; "{bits:016x} ");
 }
 
-pub(crate) fn last(n: u64) {
-    io::print_decimal(STDOUT_FILENO, n);
-    text(b"\n");
+pub(crate) fn last(out: Stdout, n: u64) {
+    let _ = println!(out; "{n}");
 }
 
-pub(crate) fn declined(d: Decline) {
-    text(b"declined ");
-    last(d.number as u64);
+pub(crate) fn declined(out: Stdout, d: Decline) {
+    text(out, b"declined ");
+    last(out, d.number as u64);
 }

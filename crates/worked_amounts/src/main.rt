@@ -9,15 +9,16 @@ mod splits;
 mod thresholds;
 mod vapour;
 
-fn main() {
-    vapour::worked();
-    vapour::order_and_first_ends();
-    vapour::other_ends();
-    vapour::odd_floats();
-    vapour::declines();
-    figures::show_all();
-    splits::show_all();
-    thresholds::show_all();
-    contents::show_all();
-    readings::show_all();
+fn main(rt: HostRuntime) {
+    let out = rt.stdout();
+    vapour::worked(out);
+    vapour::order_and_first_ends(out);
+    vapour::other_ends(out);
+    vapour::odd_floats(out);
+    vapour::declines(out);
+    figures::show_all(out);
+    splits::show_all(out);
+    thresholds::show_all(out);
+    contents::show_all(out);
+    readings::show_all(out);
 }

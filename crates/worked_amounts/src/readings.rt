@@ -1,6 +1,7 @@
 // A float read from its bits, in a range from 0 that has no end, and its whole part.
 use crate::line;
 use forms::pattern::{FloatRead, Range};
+use std::io::Stdout;
 
 const PATTERNS: [u64; 21] = [
     // Zero of either sign, and the least float.
@@ -33,8 +34,8 @@ const PATTERNS: [u64; 21] = [
     0x8000000000000001,
 ];
 
-fn show(bits: u64) {
-    line::pattern(bits);
+fn show(out: Stdout, bits: u64) {
+    line::pattern(out, bits);
     match forms::pattern::read_float(
         bits,
         Range {
@@ -42,16 +43,16 @@ fn show(bits: u64) {
             high: 1.0 / 0.0,
         },
     ) {
-        FloatRead::Value(x) => line::last(losses::whole::whole_part(x)),
-        FloatRead::Declined(d) => line::declined(d),
+        FloatRead::Value(x) => line::last(out, losses::whole::whole_part(x)),
+        FloatRead::Declined(d) => line::declined(out, d),
     }
 }
 
-pub(crate) fn show_all() {
-    line::text(b"readings: pattern, whole part in a range from 0\n");
+pub(crate) fn show_all(out: Stdout) {
+    line::text(out, b"readings: pattern, whole part in a range from 0\n");
     let mut i: usize = 0;
     while i < 21 {
-        show(PATTERNS[i]);
+        show(out, PATTERNS[i]);
         i += 1;
     }
 }

@@ -8,70 +8,71 @@ ghost use Rattle.book.specs.Site.{Sound};
 use crate::{desk, limit, line, posts, sites};
 use book::site;
 use book::site::Book;
+use std::io::Stdout;
 
 const MOST: u64 = 8_000_000_000_000;
 
 // Each material that a book may have and one past them, of which nothing is counted.
-fn none_counted(b: Book)
+fn none_counted(out: Stdout, b: Book)
     requires { Sound b }
 {
-    desk::stock(b, 0, 0);
-    desk::stock(b, 1, 0);
-    desk::stock(b, 2, 0);
-    desk::stock(b, 11, 0);
-    desk::stock(b, 12, 0);
+    desk::stock(out, b, 0, 0);
+    desk::stock(out, b, 1, 0);
+    desk::stock(out, b, 2, 0);
+    desk::stock(out, b, 11, 0);
+    desk::stock(out, b, 12, 0);
 }
 
 // The second material, up to the most that is compared and past it.
-fn second(b: Book)
+fn second(out: Stdout, b: Book)
     requires { Sound b }
 {
-    desk::stock(b, 1, 0);
-    desk::stock(b, 1, 1);
-    desk::stock(b, 1, MOST - 1);
-    desk::stock(b, 1, MOST);
-    desk::stock(b, 1, MOST + 1);
-    desk::stock(b, 1, 18_446_744_073_709_551_615);
+    desk::stock(out, b, 1, 0);
+    desk::stock(out, b, 1, 1);
+    desk::stock(out, b, 1, MOST - 1);
+    desk::stock(out, b, 1, MOST);
+    desk::stock(out, b, 1, MOST + 1);
+    desk::stock(out, b, 1, 18_446_744_073_709_551_615);
 }
 
-fn first(b: Book)
+fn first(out: Stdout, b: Book)
     requires { Sound b }
 {
-    desk::stock(b, 0, 4_300);
-    desk::stock(b, 0, 4_301);
-    desk::stock(b, 0, 4_299);
-    desk::stock(b, 0, 0);
-    desk::stock(b, 0, MOST);
-    desk::stock(b, 0, MOST + 1);
+    desk::stock(out, b, 0, 4_300);
+    desk::stock(out, b, 0, 4_301);
+    desk::stock(out, b, 0, 4_299);
+    desk::stock(out, b, 0, 0);
+    desk::stock(out, b, 0, MOST);
+    desk::stock(out, b, 0, MOST + 1);
 }
 
 // Before and after the kind 1 block, with posts, and closed. The book isn't altered: the reports are as before the counts.
-pub(crate) fn counted() {
-    line::text(b"counts on a fresh book\n");
-    none_counted(site::fresh());
-    line::text(b"counts on a book with no stage described\n");
-    none_counted(sites::set_up());
-    line::text(b"counts against a store\n");
-    let mut b = desk::post(sites::described(), 1, 0, 0, 0, 0, 3_000);
-    b = desk::post(b, 2, 0, 0, 0, 0, 2_500);
-    b = desk::post(b, 3, 0, 1, 0, 0, 1_200);
-    desk::reports(b);
-    first(b);
-    second(b);
-    desk::stock(b, 2, 0);
-    desk::reports(b);
-    b = desk::close(b);
-    first(b);
+pub(crate) fn counted(out: Stdout) {
+    line::text(out, b"counts on a fresh book\n");
+    none_counted(out, site::fresh());
+    line::text(out, b"counts on a book with no stage described\n");
+    none_counted(out, sites::set_up());
+    line::text(out, b"counts against a store\n");
+    let mut b = desk::post(out, sites::described(), 1, 0, 0, 0, 0, 3_000);
+    b = desk::post(out, b, 2, 0, 0, 0, 0, 2_500);
+    b = desk::post(out, b, 3, 0, 1, 0, 0, 1_200);
+    desk::reports(out, b);
+    first(out, b);
+    second(out, b);
+    desk::stock(out, b, 2, 0);
+    desk::reports(out, b);
+    b = desk::close(out, b);
+    first(out, b);
 }
 
 // 4,000 posts, and the close past them.
-pub(crate) fn full() {
-    line::text(b"counts on a full book\n");
+pub(crate) fn full(out: Stdout) {
+    line::text(out, b"counts on a full book\n");
     let p = posts::of(2, 1, 0, 0, 0, 2_000_000_000);
     let mut b = limit::repeated(sites::described(), p, 4_000);
-    desk::reports(b);
-    second(b);
-    b = desk::close(b);
-    second(b);
-    desk::stock(b, 0, MOST);
+    desk::reports(out, b);
+    second(out, b);
+    b = desk::close(out, b);
+    second(out, b);
+    desk::stock(out, b, 0, MOST);
 }

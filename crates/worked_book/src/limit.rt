@@ -5,6 +5,7 @@ use crate::posts::Field;
 use crate::{desk, line, posts, sites, trials};
 use book::site::Book;
 use kinds::fields::Post;
+use std::io::Stdout;
 
 const ONE: u64 = 0x3ff0000000000000;
 
@@ -35,24 +36,24 @@ fn filled() -> Book
 }
 
 // 6, 7, 8 and 9 come before 10, and 10 before 11. A loss of nothing is a post too. A close with a wrong field or float is none.
-pub(crate) fn reached() {
-    line::text(b"the limit of posts\n");
+pub(crate) fn reached(out: Stdout) {
+    line::text(out, b"the limit of posts\n");
     let mut b = filled();
-    desk::reports(b);
-    b = desk::post(b, 1, 1, 0, 0, 0, 2_000_000_000);
-    desk::reports(b);
-    b = desk::post(b, 2, 1, 0, 0, 0, 1);
-    b = desk::post(b, 2, 2, 0, 0, 0, 1);
-    b = trials::one(b, 2, Field::U, ONE);
-    b = desk::vapour(b, 1, 0, 1, ONE, 0, 0, 0);
-    b = desk::vapour(b, 3, 0, 0, BILLION, BILLION, 0, 0);
-    b = desk::post(b, 5, 0, 0, 1, 1, 1);
-    b = desk::post(b, 14, 0, 0, 1, 1, 1);
-    b = desk::vapour(b, 3, 0, 0, 0, 0, 0, 0);
-    desk::reports(b);
-    b = desk::post(b, 13, 0, 1, 0, 0, 0);
-    b = trials::one(b, 13, Field::Q, ONE);
-    b = desk::close(b);
-    b = desk::close(b);
-    desk::reports(b);
+    desk::reports(out, b);
+    b = desk::post(out, b, 1, 1, 0, 0, 0, 2_000_000_000);
+    desk::reports(out, b);
+    b = desk::post(out, b, 2, 1, 0, 0, 0, 1);
+    b = desk::post(out, b, 2, 2, 0, 0, 0, 1);
+    b = trials::one(out, b, 2, Field::U, ONE);
+    b = desk::vapour(out, b, 1, 0, 1, ONE, 0, 0, 0);
+    b = desk::vapour(out, b, 3, 0, 0, BILLION, BILLION, 0, 0);
+    b = desk::post(out, b, 5, 0, 0, 1, 1, 1);
+    b = desk::post(out, b, 14, 0, 0, 1, 1, 1);
+    b = desk::vapour(out, b, 3, 0, 0, 0, 0, 0, 0);
+    desk::reports(out, b);
+    b = desk::post(out, b, 13, 0, 1, 0, 0, 0);
+    b = trials::one(out, b, 13, Field::Q, ONE);
+    b = desk::close(out, b);
+    b = desk::close(out, b);
+    desk::reports(out, b);
 }

@@ -2,133 +2,131 @@
 use amounts::decline::Decline;
 use kinds::fields::Post;
 use layout::verdict::Verdict;
-use libc::STDOUT_FILENO;
 use report::fate::Headings;
 use report::report::{Filing, Report, Reported};
+use std::io::{Print, Stdout};
 use stock::sheet::{Difference, magnitude};
 
-pub(crate) fn text(bytes: &[u8]) {
-    io::write_all(STDOUT_FILENO, bytes);
+pub(crate) fn text(out: Stdout, bytes: &[u8]) {
+    let _ = Print::write_all(&out, bytes);
 }
 
-pub(crate) fn number(n: u64) {
-    text(b" ");
-    io::print_decimal(STDOUT_FILENO, n);
+pub(crate) fn number(out: Stdout, n: u64) {
+    let _ = print!(out; " {n}");
 }
 
 // The bits of a float, in 16 digits.
-fn pattern(bits: u64) {
-    text(b" ");
-    io::print_hex(STDOUT_FILENO, bits, 16);
+fn pattern(out: Stdout, bits: u64) {
+    let _ = print!(out; " {bits:016x}");
 }
 
-fn declined(d: Decline) {
-    text(b": declined");
-    number(d.number as u64);
-    text(b"\n");
+fn declined(out: Stdout, d: Decline) {
+    text(out, b": declined");
+    number(out, d.number as u64);
+    text(out, b"\n");
 }
 
-pub(crate) fn verdict(v: Verdict) {
+pub(crate) fn verdict(out: Stdout, v: Verdict) {
     match v {
-        Verdict::Accepted => text(b": accepted\n"),
-        Verdict::Declined(d) => declined(d),
+        Verdict::Accepted => text(out, b": accepted\n"),
+        Verdict::Declined(d) => declined(out, d),
     }
 }
 
-fn sign(n: i64) {
+fn sign(out: Stdout, n: i64) {
     if n > 0 {
-        text(b"+");
+        text(out, b"+");
     } else if n < 0 {
-        text(b"-");
+        text(out, b"-");
     }
 }
 
-fn difference(n: i64) {
-    text(b": ");
-    sign(n);
-    io::print_decimal(STDOUT_FILENO, magnitude(n));
-    text(b"\n");
+fn difference(out: Stdout, n: i64) {
+    text(out, b": ");
+    sign(out, n);
+    let grams = magnitude(n);
+    let _ = println!(out; "{grams}");
 }
 
 // The material, the grams counted and the difference.
-pub(crate) fn stock(material: usize, grams: u64, answer: Difference) {
-    text(b"stock");
-    number(material as u64);
-    number(grams);
+pub(crate) fn stock(out: Stdout, material: usize, grams: u64, answer: Difference) {
+    text(out, b"stock");
+    number(out, material as u64);
+    number(out, grams);
     match answer {
-        Difference::Grams(n) => difference(n),
-        Difference::Declined(d) => declined(d),
+        Difference::Grams(n) => difference(out, n),
+        Difference::Declined(d) => declined(out, d),
     }
 }
 
-fn floats(p: Post) {
-    pattern(p.w);
-    pattern(p.u);
-    pattern(p.p);
-    pattern(p.q);
+fn floats(out: Stdout, p: Post) {
+    pattern(out, p.w);
+    pattern(out, p.u);
+    pattern(out, p.p);
+    pattern(out, p.q);
 }
 
 // Kind, material, stage, substance, content and quantity, and the floats of vapour or where one is not zero.
-pub(crate) fn post(p: Post) {
-    text(b"post");
-    number(p.kind as u64);
-    number(p.material as u64);
-    number(p.stage as u64);
-    number(p.substance as u64);
-    number(p.content as u64);
-    number(p.quantity);
+pub(crate) fn post(out: Stdout, p: Post) {
+    text(out, b"post");
+    number(out, p.kind as u64);
+    number(out, p.material as u64);
+    number(out, p.stage as u64);
+    number(out, p.substance as u64);
+    number(out, p.content as u64);
+    number(out, p.quantity);
     if p.kind == 12 {
-        floats(p);
+        floats(out, p);
     } else if (p.w | p.u | p.p | p.q) != 0 {
-        floats(p);
+        floats(out, p);
     }
 }
 
-fn headings(h: Headings) {
-    number(h.air);
-    number(h.water);
-    number(h.soil);
-    number(h.land);
-    number(h.sewer);
-    number(h.offsite);
+fn headings(out: Stdout, h: Headings) {
+    number(out, h.air);
+    number(out, h.water);
+    number(out, h.soil);
+    number(out, h.land);
+    number(out, h.sewer);
+    number(out, h.offsite);
 }
 
-fn filed(f: Filing) {
+fn filed(out: Stdout, f: Filing) {
     match f {
-        Filing::Figures(h) => headings(h),
-        Filing::NotDue => text(b" - - - - - -"),
+        Filing::Figures(h) => headings(out, h),
+        Filing::NotDue => text(out, b" - - - - - -"),
     }
 }
 
-fn known(r: Report) {
-    text(b":");
-    number(r.posts as u64);
-    number(r.number as u64);
-    number(r.handled);
+fn known(out: Stdout, r: Report) {
+    text(out, b":");
+    number(out, r.posts as u64);
+    number(out, r.number as u64);
+    number(out, r.handled);
     if r.due {
-        text(b" Y");
+        text(out, b" Y");
     } else {
-        text(b" N");
+        text(out, b" N");
     }
-    number(r.store);
+    number(out, r.store);
     let x = r.fate;
-    number(x.held);
-    number(x.shipped);
-    number(x.consumed);
-    number(x.destroyed);
+    number(out, x.held);
+    number(out, x.shipped);
+    number(out, x.consumed);
+    number(out, x.destroyed);
     let h = x.headings;
-    headings(h);
+    headings(out, h);
     let f = r.filed;
-    filed(f);
-    text(b"\n");
+    filed(out, f);
+    text(out, b"\n");
 }
 
 // Posts, number, handled, due, store, held, shipped, consumed, destroyed, the six headings and the six figures.
-pub(crate) fn report(place: usize, r: Reported) {
-    text(b"report");
-    number(place as u64);
+pub(crate) fn report(out: Stdout, place: usize, r: Reported) {
+    text(out, b"report");
+    number(out, place as u64);
     match r {
-        Reported::Known(x) => known(x),
-        Reported::Declined(d) => declined(d),
+        Reported::Known(x) => known(out, x),
+        Reported::Declined(d) => declined(out, d),
     }
 }

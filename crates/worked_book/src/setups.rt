@@ -1,6 +1,7 @@
 // Kind 1: a body that is taken, and each rule of its layout broken alone.
 use crate::{bodies, desk, line, sites};
 use book::site;
+use std::io::Stdout;
 
 // A count of substances, and a byte of the good body with what it is changed to.
 #[derive(Clone, Copy)]
@@ -49,80 +50,80 @@ const CASES: [Case; 32] = [
     Case(2, 499, 1),
 ];
 
-fn try_case(case: Case) {
+fn try_case(out: Stdout, case: Case) {
     let mut body = sites::materials();
     let at = case.1;
     if at < 500 {
         body[at] = case.2;
     }
-    line::text(b"byte");
-    line::number(at as u64);
-    line::number(case.2 as u64);
-    line::text(b" ");
-    desk::set_up(site::fresh(), case.0, &body);
+    line::text(out, b"byte");
+    line::number(out, at as u64);
+    line::number(out, case.2 as u64);
+    line::text(out, b" ");
+    desk::set_up(out, site::fresh(), case.0, &body);
 }
 
-pub(crate) fn cases() {
-    line::text(b"set-ups\n");
+pub(crate) fn cases(out: Stdout) {
+    line::text(out, b"set-ups\n");
     let mut i: usize = 0;
     while i < 32 {
-        try_case(CASES[i]);
+        try_case(out, CASES[i]);
         i += 1;
     }
 }
 
-fn numbered(first: u16, second: u16) {
+fn numbered(out: Stdout, first: u16, second: u16) {
     let body = bodies::substance(sites::materials(), 0, first, 1);
     let body = bodies::substance(body, 1, second, 2);
-    line::text(b"numbers");
-    line::number(first as u64);
-    line::number(second as u64);
-    line::text(b" ");
-    desk::set_up(site::fresh(), 2, &body);
+    line::text(out, b"numbers");
+    line::number(out, first as u64);
+    line::number(out, second as u64);
+    line::text(out, b" ");
+    desk::set_up(out, site::fresh(), 2, &body);
 }
 
 // The contents of the second material.
-fn containing(first: u32, second: u32) {
+fn containing(out: Stdout, first: u32, second: u32) {
     let body = bodies::content(sites::materials(), 1, 0, first);
     let body = bodies::content(body, 1, 1, second);
-    line::text(b"contents");
-    line::number(first as u64);
-    line::number(second as u64);
-    line::text(b" ");
-    desk::set_up(site::fresh(), 2, &body);
+    line::text(out, b"contents");
+    line::number(out, first as u64);
+    line::number(out, second as u64);
+    line::text(out, b" ");
+    desk::set_up(out, site::fresh(), 2, &body);
 }
 
-pub(crate) fn pairs() {
-    numbered(1, 2);
-    numbered(0, 81);
-    numbered(81, 81);
-    numbered(82, 81);
+pub(crate) fn pairs(out: Stdout) {
+    numbered(out, 1, 2);
+    numbered(out, 0, 81);
+    numbered(out, 81, 81);
+    numbered(out, 82, 81);
     // The lower byte rises and the number falls; and the other way.
-    numbered(256, 255);
-    numbered(255, 256);
-    numbered(65_534, 65_535);
-    containing(0, 0);
-    containing(1_000_000, 0);
-    containing(1_000_000, 1);
-    containing(1_000_001, 0);
+    numbered(out, 256, 255);
+    numbered(out, 255, 256);
+    numbered(out, 65_534, 65_535);
+    containing(out, 0, 0);
+    containing(out, 1_000_000, 0);
+    containing(out, 1_000_000, 1);
+    containing(out, 1_000_001, 0);
     // Sums past 32 bits.
-    containing(4_294_967_295, 1);
-    containing(2_147_483_648, 2_147_483_648);
+    containing(out, 4_294_967_295, 1);
+    containing(out, 2_147_483_648, 2_147_483_648);
 }
 
 // 6 for a length; 4 once set up, whatever the body, and on a closed book.
-pub(crate) fn turns() {
+pub(crate) fn turns(out: Stdout) {
     let body = sites::materials();
     let mut b = site::fresh();
-    desk::set_up_of(b, 2, &body[0..499]);
-    desk::set_up_of(b, 2, &[0; 501]);
-    desk::reports(b);
-    b = desk::set_up(b, 2, &body);
-    desk::reports(b);
-    b = desk::set_up(b, 2, &body);
-    desk::set_up_of(b, 9, &[0; 0]);
-    desk::reports(b);
-    line::text(b"closed ");
-    b = desk::set_up(sites::closed(), 2, &body);
-    desk::reports(b);
+    desk::set_up_of(out, b, 2, &body[0..499]);
+    desk::set_up_of(out, b, 2, &[0; 501]);
+    desk::reports(out, b);
+    b = desk::set_up(out, b, 2, &body);
+    desk::reports(out, b);
+    b = desk::set_up(out, b, 2, &body);
+    desk::set_up_of(out, b, 9, &[0; 0]);
+    desk::reports(out, b);
+    line::text(out, b"closed ");
+    b = desk::set_up(out, sites::closed(), 2, &body);
+    desk::reports(out, b);
 }

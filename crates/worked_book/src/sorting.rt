@@ -8,24 +8,25 @@
 //   Nothing is held before or after, so that the close moves nothing.
 use crate::{bodies, desk, line};
 use book::site;
+use std::io::Stdout;
 
-pub(crate) fn year() {
-    line::text(b"a sorting site\n");
+pub(crate) fn year(out: Stdout) {
+    line::text(out, b"a sorting site\n");
     let body = bodies::substance(bodies::begun(1, 2), 0, 80, 1);
     let body = bodies::substance(body, 1, 400, 2);
-    let mut b = desk::set_up(site::fresh(), 2, &body);
+    let mut b = desk::set_up(out, site::fresh(), 2, &body);
     let body = bodies::treated(bodies::begun(1, 2), 0, 1, 0, 0, 0, 0);
-    b = desk::describe(b, 0, &bodies::treated(body, 1, 1, 0, 0, 0, 0));
+    b = desk::describe(out, b, 0, &bodies::treated(body, 1, 1, 0, 0, 0, 0));
     let body = bodies::treated(bodies::begun(2, 1), 0, 2, 0, 0, 0, 0);
-    b = desk::describe(b, 1, &bodies::treated(body, 1, 2, 0, 0, 0, 0));
-    b = desk::post(b, 14, 0, 0, 0, 450_000, 2_000_000);
-    b = desk::post(b, 14, 0, 1, 0, 21_649, 4_619_151);
-    b = desk::post(b, 14, 0, 0, 1, 999_999, 500_000);
-    b = desk::post(b, 14, 0, 1, 1, 1, 499_999);
-    desk::reports(b);
-    b = desk::post(b, 14, 0, 1, 0, 1, 1);
-    desk::reports(b);
-    b = desk::close(b);
-    b = desk::post(b, 14, 0, 1, 1, 1, 1);
-    desk::reports(b);
+    b = desk::describe(out, b, 1, &bodies::treated(body, 1, 2, 0, 0, 0, 0));
+    b = desk::post(out, b, 14, 0, 0, 0, 450_000, 2_000_000);
+    b = desk::post(out, b, 14, 0, 1, 0, 21_649, 4_619_151);
+    b = desk::post(out, b, 14, 0, 0, 1, 999_999, 500_000);
+    b = desk::post(out, b, 14, 0, 1, 1, 1, 499_999);
+    desk::reports(out, b);
+    b = desk::post(out, b, 14, 0, 1, 0, 1, 1);
+    desk::reports(out, b);
+    b = desk::close(out, b);
+    b = desk::post(out, b, 14, 0, 1, 1, 1, 1);
+    desk::reports(out, b);
 }

@@ -1,6 +1,7 @@
 // Kind 2: a body that is taken, each rule of its layout broken alone, and stages out of their turn.
 use crate::{bodies, desk, line, sites};
 use book::site;
+use std::io::Stdout;
 
 // A byte of the good body with what it is changed to.
 #[derive(Clone, Copy)]
@@ -30,30 +31,30 @@ const CASES: [Case; 18] = [
     Case(499, 1),
 ];
 
-fn try_case(case: Case) {
+fn try_case(out: Stdout, case: Case) {
     let mut body = sites::stage();
     let at = case.0;
     if at < 500 {
         body[at] = case.1;
     }
-    line::text(b"byte");
-    line::number(at as u64);
-    line::number(case.1 as u64);
-    line::text(b" ");
-    desk::describe(sites::set_up(), 0, &body);
+    line::text(out, b"byte");
+    line::number(out, at as u64);
+    line::number(out, case.1 as u64);
+    line::text(out, b" ");
+    desk::describe(out, sites::set_up(), 0, &body);
 }
 
-pub(crate) fn cases() {
-    line::text(b"stages\n");
+pub(crate) fn cases(out: Stdout) {
+    line::text(out, b"stages\n");
     let mut i: usize = 0;
     while i < 18 {
-        try_case(CASES[i]);
+        try_case(out, CASES[i]);
         i += 1;
     }
 }
 
 // The second substance's rates.
-fn rated(gas: u32, gas_destroyed: u32, water: u32, water_destroyed: u32) {
+fn rated(out: Stdout, gas: u32, gas_destroyed: u32, water: u32, water_destroyed: u32) {
     let body = bodies::treated(
         sites::stage(),
         1,
@@ -63,40 +64,40 @@ fn rated(gas: u32, gas_destroyed: u32, water: u32, water_destroyed: u32) {
         water,
         water_destroyed,
     );
-    line::text(b"rates");
-    line::number(gas as u64);
-    line::number(gas_destroyed as u64);
-    line::number(water as u64);
-    line::number(water_destroyed as u64);
-    line::text(b" ");
-    desk::describe(sites::set_up(), 0, &body);
+    line::text(out, b"rates");
+    line::number(out, gas as u64);
+    line::number(out, gas_destroyed as u64);
+    line::number(out, water as u64);
+    line::number(out, water_destroyed as u64);
+    line::text(out, b" ");
+    desk::describe(out, sites::set_up(), 0, &body);
 }
 
-pub(crate) fn rates() {
-    rated(1_000_000, 1_000_000, 1_000_000, 1_000_000);
-    rated(1_000_001, 0, 0, 0);
-    rated(0, 1_000_001, 0, 0);
-    rated(0, 0, 1_000_001, 0);
-    rated(0, 0, 0, 1_000_001);
-    rated(0, 0, 0, 4_294_967_295);
+pub(crate) fn rates(out: Stdout) {
+    rated(out, 1_000_000, 1_000_000, 1_000_000, 1_000_000);
+    rated(out, 1_000_001, 0, 0, 0);
+    rated(out, 0, 1_000_001, 0, 0);
+    rated(out, 0, 0, 1_000_001, 0);
+    rated(out, 0, 0, 0, 1_000_001);
+    rated(out, 0, 0, 0, 4_294_967_295);
 }
 
 // 6 for a length; 4 before the set-up, or for another stage than the next, whatever the body; and for a post before the last.
-pub(crate) fn turns() {
+pub(crate) fn turns(out: Stdout) {
     let body = sites::stage();
-    desk::describe(site::fresh(), 0, &body);
+    desk::describe(out, site::fresh(), 0, &body);
     let mut b = sites::set_up();
-    desk::describe_of(b, 0, &body[0..499]);
-    b = desk::describe(b, 1, &body);
-    b = desk::describe(b, 0, &body);
-    b = desk::describe(b, 0, &body);
-    desk::describe_of(b, 2, &[0; 0]);
-    b = desk::post(b, 1, 0, 0, 0, 0, 1);
-    desk::reports(b);
-    b = desk::describe(b, 1, &body);
-    b = desk::describe(b, 2, &body);
-    b = desk::post(b, 1, 0, 0, 0, 0, 1);
-    desk::reports(b);
-    line::text(b"closed ");
-    desk::describe(sites::closed(), 2, &body);
+    desk::describe_of(out, b, 0, &body[0..499]);
+    b = desk::describe(out, b, 1, &body);
+    b = desk::describe(out, b, 0, &body);
+    b = desk::describe(out, b, 0, &body);
+    desk::describe_of(out, b, 2, &[0; 0]);
+    b = desk::post(out, b, 1, 0, 0, 0, 0, 1);
+    desk::reports(out, b);
+    b = desk::describe(out, b, 1, &body);
+    b = desk::describe(out, b, 2, &body);
+    b = desk::post(out, b, 1, 0, 0, 0, 0, 1);
+    desk::reports(out, b);
+    line::text(out, b"closed ");
+    desk::describe(out, sites::closed(), 2, &body);
 }

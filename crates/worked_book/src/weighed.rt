@@ -17,12 +17,13 @@ ghost use Rattle.book.specs.Site.{Sound};
 use crate::{bodies, desk, line};
 use book::site;
 use book::site::Book;
+use std::io::Stdout;
 
 const A_HUNDRED: u64 = 0x4059000000000000;
 
 const A_HALF: u64 = 0x3fe0000000000000;
 
-fn opened() -> Book
+fn opened(out: Stdout) -> Book
     ensures { Sound result }
 {
     let body = bodies::substance(bodies::begun(2, 2), 0, 300, 1);
@@ -31,10 +32,10 @@ fn opened() -> Book
     let body = bodies::content(body, 0, 1, 999);
     let body = bodies::content(body, 1, 0, 9_999);
     let body = bodies::content(body, 1, 1, 500_000);
-    let b = desk::set_up(site::fresh(), 2, &body);
+    let b = desk::set_up(out, site::fresh(), 2, &body);
     let body = bodies::treated(bodies::begun(1, 1), 0, 1, 500_000, 250_000, 200_000, 0);
     let body = bodies::treated(body, 1, 2, 0, 0, 750_000, 500_000);
-    let b = desk::describe(b, 0, &body);
+    let b = desk::describe(out, b, 0, &body);
     let body = bodies::treated(
         bodies::begun(2, 2),
         0,
@@ -45,49 +46,49 @@ fn opened() -> Book
         500_000,
     );
     let body = bodies::treated(body, 1, 1, 900_000, 0, 0, 0);
-    desk::describe(b, 1, &body)
+    desk::describe(out, b, 1, &body)
 }
 
 // The second issue of the first material to the first stage is more than is there.
-fn received(mut b: Book) -> Book
+fn received(out: Stdout, mut b: Book) -> Book
     requires { Sound b }
     ensures { Sound result }
 {
-    b = desk::post(b, 1, 0, 0, 0, 0, 1_000_000);
-    b = desk::post(b, 2, 0, 0, 0, 0, 4_000_000);
-    b = desk::post(b, 2, 1, 0, 0, 0, 2_000_000);
-    b = desk::post(b, 3, 0, 0, 0, 0, 3_000_000);
-    b = desk::post(b, 3, 0, 1, 0, 0, 1_000_000);
-    b = desk::post(b, 3, 0, 0, 0, 0, 2_000_000);
-    b = desk::post(b, 3, 1, 1, 0, 0, 1_500_000);
-    desk::post(b, 4, 0, 0, 0, 0, 300_000_000_000)
+    b = desk::post(out, b, 1, 0, 0, 0, 0, 1_000_000);
+    b = desk::post(out, b, 2, 0, 0, 0, 0, 4_000_000);
+    b = desk::post(out, b, 2, 1, 0, 0, 0, 2_000_000);
+    b = desk::post(out, b, 3, 0, 0, 0, 0, 3_000_000);
+    b = desk::post(out, b, 3, 0, 1, 0, 0, 1_000_000);
+    b = desk::post(out, b, 3, 0, 0, 0, 0, 2_000_000);
+    b = desk::post(out, b, 3, 1, 1, 0, 0, 1_500_000);
+    desk::post(out, b, 4, 0, 0, 0, 0, 300_000_000_000)
 }
 
 // The second post to gas states no content.
-fn moved(mut b: Book) -> Book
+fn moved(out: Stdout, mut b: Book) -> Book
     requires { Sound b }
     ensures { Sound result }
 {
-    b = desk::post(b, 5, 0, 0, 0, 200_000, 1_000_000);
-    b = desk::post(b, 6, 0, 0, 0, 50_000, 100_000);
-    b = desk::post(b, 7, 0, 1, 0, 100_000, 50_000);
-    b = desk::post(b, 8, 0, 1, 0, 10_000, 1_000);
-    b = desk::post(b, 9, 0, 0, 0, 95_000, 1_000_000);
-    b = desk::post(b, 10, 0, 0, 0, 100_000, 500_000);
-    b = desk::post(b, 10, 0, 0, 0, 0, 500_000);
-    b = desk::post(b, 11, 0, 1, 0, 50_000, 200_000);
-    b = desk::vapour(b, 3, 0, 0, A_HUNDRED, A_HALF, 0, 0);
-    b = desk::post(b, 10, 0, 1, 1, 500_000, 300_000);
-    desk::post(b, 5, 0, 1, 1, 400_000, 1_000_000)
+    b = desk::post(out, b, 5, 0, 0, 0, 200_000, 1_000_000);
+    b = desk::post(out, b, 6, 0, 0, 0, 50_000, 100_000);
+    b = desk::post(out, b, 7, 0, 1, 0, 100_000, 50_000);
+    b = desk::post(out, b, 8, 0, 1, 0, 10_000, 1_000);
+    b = desk::post(out, b, 9, 0, 0, 0, 95_000, 1_000_000);
+    b = desk::post(out, b, 10, 0, 0, 0, 100_000, 500_000);
+    b = desk::post(out, b, 10, 0, 0, 0, 0, 500_000);
+    b = desk::post(out, b, 11, 0, 1, 0, 50_000, 200_000);
+    b = desk::vapour(out, b, 3, 0, 0, A_HUNDRED, A_HALF, 0, 0);
+    b = desk::post(out, b, 10, 0, 1, 1, 500_000, 300_000);
+    desk::post(out, b, 5, 0, 1, 1, 400_000, 1_000_000)
 }
 
 // What is bought after the close is refused.
-pub(crate) fn list() {
-    line::text(b"a list worked from its posts\n");
-    let mut b = moved(received(opened()));
-    desk::reports(b);
-    b = desk::close(b);
-    desk::reports(b);
-    b = desk::post(b, 2, 0, 0, 0, 0, 1);
-    desk::reports(b);
+pub(crate) fn list(out: Stdout) {
+    line::text(out, b"a list worked from its posts\n");
+    let mut b = moved(out, received(out, opened(out)));
+    desk::reports(out, b);
+    b = desk::close(out, b);
+    desk::reports(out, b);
+    b = desk::post(out, b, 2, 0, 0, 0, 0, 1);
+    desk::reports(out, b);
 }

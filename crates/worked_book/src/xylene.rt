@@ -5,20 +5,21 @@
 //   with all rates 0 the 225 are released to air, and filed as 230, the step being 10.
 use crate::{bodies, desk, line};
 use book::site;
+use std::io::Stdout;
 
-pub(crate) fn year() {
-    line::text(b"xylene\n");
+pub(crate) fn year(out: Stdout) {
+    line::text(out, b"xylene\n");
     let body = bodies::substance(bodies::begun(1, 1), 0, 80, 1);
     let body = bodies::content(body, 0, 0, 450_000);
-    let mut b = desk::set_up(site::fresh(), 1, &body);
+    let mut b = desk::set_up(out, site::fresh(), 1, &body);
     let body = bodies::treated(bodies::begun(1, 1), 0, 1, 0, 0, 0, 0);
-    b = desk::describe(b, 0, &body);
-    desk::report(b, 0);
-    b = desk::post(b, 1, 0, 0, 0, 0, 500_000);
-    b = desk::post(b, 2, 0, 0, 0, 0, 2_500_000);
-    b = desk::post(b, 3, 0, 0, 0, 0, 2_700_000);
-    b = desk::post(b, 5, 0, 0, 0, 450_000, 2_200_000);
-    desk::report(b, 0);
-    b = desk::close(b);
-    desk::report(b, 0);
+    b = desk::describe(out, b, 0, &body);
+    desk::report(out, b, 0);
+    b = desk::post(out, b, 1, 0, 0, 0, 0, 500_000);
+    b = desk::post(out, b, 2, 0, 0, 0, 0, 2_500_000);
+    b = desk::post(out, b, 3, 0, 0, 0, 0, 2_700_000);
+    b = desk::post(out, b, 5, 0, 0, 0, 450_000, 2_200_000);
+    desk::report(out, b, 0);
+    b = desk::close(out, b);
+    desk::report(out, b, 0);
 }

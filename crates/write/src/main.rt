@@ -5,31 +5,32 @@ mod reading;
 mod reply;
 
 use pages::page;
+use std::io::{Stderr, Stdin, Stdout};
 use streams::{output, trouble};
 
 // The bytes at the start of a buffer on standard output.
-fn show(bytes: &[u8], n: usize) {
+fn show(stdout: Stdout, stderr: Stderr, bytes: &[u8], n: usize) {
     if n <= bytes.len() {
-        let written = output::text(output::start(), &bytes[..n]);
+        let written = output::text(output::start(stdout), &bytes[..n]);
         if output::has_failed(written) {
-            trouble::unwritten(b"write");
+            trouble::unwritten(stderr, b"write");
         }
     }
 }
 
-fn write_journal(buffer: &mut [u8]) {
-    let all = reading::read_records(buffer);
+fn write_journal(stdin: Stdin, stdout: Stdout, stderr: Stderr, buffer: &mut [u8]) {
+    let all = reading::read_records(stdin, stderr, buffer);
     if !all.is_read {
-        trouble::unread(b"write");
+        trouble::unread(stderr, b"write");
         return;
     }
     let draft = all.draft;
     let ended = page::end_posts(buffer, all.filled, draft);
-    show(buffer, ended.filled);
+    show(stdout, stderr, buffer, ended.filled);
 }
 
 // The journal has room for 4,096 blocks.
-fn main() {
+fn main(rt: HostRuntime) {
     let mut buffer = [0u8; 2097152];
-    write_journal(&mut buffer);
+    write_journal(rt.stdin(), rt.stdout(), rt.stderr(), &mut buffer);
 }

@@ -4,21 +4,22 @@ ghost use Rattle.write.specs.Reply.{Kept};
 use crate::reply;
 use crate::reply::State;
 use pages::page;
+use std::io::{Stderr, Stdin};
 use streams::{input, record};
 
 // Up to the end of the input or to a malformed record, or to a read that failed.
-pub(crate) fn read_records(buffer: &mut [u8]) -> State
+pub(crate) fn read_records(stdin: Stdin, stderr: Stderr, buffer: &mut [u8]) -> State
     ensures { Kept buffer.old buffer.new result }
 {
-    let mut space = io::large_buffer();
-    let mut source = input::start();
+    let mut space = [0u8; 65536];
+    let mut source = input::start(stdin);
     let mut filled: usize = 0;
     let mut draft = page::fresh();
     let mut place: u64 = 0;
-    loop {
+    'records: loop {
         let found = record::next(source, &mut space);
         let record = found.record;
-        let state = reply::answer(buffer, filled, draft, place, record, &space);
+        let state = reply::answer(stderr, buffer, filled, draft, place, record, &space);
         if !state.is_open {
             return state;
         }

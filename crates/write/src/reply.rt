@@ -6,12 +6,13 @@ ghost use Rattle.write.specs.Reply.{closed_state, may_follow, Replied, Told};
 
 use amounts::decline::Decline;
 use layout::verdict::Verdict;
-use libc::STDERR_FILENO;
 use pages::draft::Draft;
 use pages::page::Taken;
 use records::call;
 use records::record::MALFORMED;
+use std::io::Stderr;
 use streams::record::Record;
+use streams::writing;
 
 // The page's filled length and block being filled after a record, whether another may follow, and whether the input could be read.
 #[derive(Clone, Copy)]
@@ -23,30 +24,31 @@ pub(crate) struct State {
 }
 
 // Tells why a record isn't taken. Whether another may follow: behind a malformed one none.
-fn tell(place: u64, d: Decline) -> bool
+fn tell(stderr: Stderr, place: u64, d: Decline) -> bool
     ensures { result ≡ may_follow d.number }
 {
-    io::write_all(STDERR_FILENO, b"record ");
-    io::print_decimal(STDERR_FILENO, place);
+    let mut stderr = stderr;
+    writing::all(&mut stderr, b"record ");
+    writing::number(&mut stderr, place);
     let malformed = MALFORMED;
     if d.number == malformed.number {
-        io::write_all(STDERR_FILENO, b" malformed\n");
+        writing::all(&mut stderr, b" malformed\n");
         return false;
     }
-    io::write_all(STDERR_FILENO, b" ");
-    io::print_decimal(STDERR_FILENO, d.number as u64);
-    io::write_all(STDERR_FILENO, b"\n");
+    writing::all(&mut stderr, b" ");
+    writing::number(&mut stderr, d.number as u64);
+    writing::all(&mut stderr, b"\n");
     true
 }
 
-fn told(place: u64, taken: Taken) -> State
+fn told(stderr: Stderr, place: u64, taken: Taken) -> State
     ensures { Told taken result }
 {
     let draft = taken.draft;
     let v = taken.verdict;
     let is_open = match v {
         Verdict::Accepted => true,
-        Verdict::Declined(d) => tell(place, d),
+        Verdict::Declined(d) => tell(stderr, place, d),
     };
     State {
         filled: taken.filled,
@@ -69,6 +71,7 @@ fn closed(filled: usize, draft: Draft, read: bool) -> State
 
 // A whole record stands in the space.
 pub(crate) fn answer(
+    stderr: Stderr,
     buffer: &mut [u8],
     filled: usize,
     d: Draft,
@@ -83,10 +86,10 @@ pub(crate) fn answer(
     match r {
         Record::Complete(tag, size) => {
             let taken = call::take_record(buffer, filled, d, tag, &space[..size]);
-            told(place, taken)
+            told(stderr, place, taken)
         }
         Record::Malformed => {
-            tell(place, MALFORMED);
+            tell(stderr, place, MALFORMED);
             closed(filled, d, true)
         }
         Record::End => closed(filled, d, true),
