@@ -22,8 +22,7 @@ KEPT = set("drop-zeros joined-append length-placed length-put length-raised leng
 
 
 def snake(name):
-    name = re.sub(r"([a-z0-9])([A-Z])", lambda m: m[1] + "_" + m[2].lower(), name)
-    return name
+    return re.sub(r"(?<=[A-Za-z0-9])[A-Z]", lambda m: "_" + m[0].lower(), name)
 
 
 def antt(*folders):
@@ -62,6 +61,12 @@ def table():
             continue
         if name in LEMMAS:
             rows[name] = name.replace("-", "_") + "_lem"
+            continue
+        if "◌" in name:
+            for part in name.split("◌"):
+                if snake(part) != part:
+                    rows[part] = snake(part)
+                    rows[name] = snake(name)
             continue
         if name in KEPT or not (name[0].islower() or "-" in name):
             continue

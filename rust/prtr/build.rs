@@ -1,4 +1,4 @@
-//! Links the proved archive, from the directory of PRTR_LIB or from target/staticlib at the repository's top.
+//! Links the proved archive, from the directory of PRTR_LIB or from crates/prtr/out of the repository.
 
 use std::env;
 use std::path::{Path, PathBuf};
@@ -8,7 +8,7 @@ use std::process::exit;
 fn directory() -> PathBuf {
     match env::var_os("PRTR_LIB") {
         Some(named) => PathBuf::from(named),
-        None => Path::new(env!("CARGO_MANIFEST_DIR")).join("../../target/staticlib"),
+        None => Path::new(env!("CARGO_MANIFEST_DIR")).join("../../crates/prtr/out"),
     }
 }
 
@@ -18,7 +18,7 @@ fn main() {
     println!("cargo:rerun-if-changed={}", archive.display());
     let Ok(archive) = archive.canonicalize() else {
         eprintln!("There is no archive {}.", archive.display());
-        eprintln!("Build it with `rt staticlib prtr` at the repository's top,");
+        eprintln!("Build it with `rt lib` in crates/prtr of the repository,");
         eprintln!("or set PRTR_LIB to the whole path of the directory that holds libprtr.a.");
         exit(1);
     };

@@ -17,8 +17,8 @@ use Rattle.kinds.specs.declared.kind.Span.{Span}
 -- ---- limits
 
 -- the numbers from one up to another, which is not among them
-infix 20 ◌upTo◌
-abbrev pub ◌upTo◌ : ℕ → ℕ → Span
+infix 20 ◌up_to◌
+abbrev pub ◌up_to◌ : ℕ → ℕ → Span
 from up_to end = record { from = from; end = end }
 
 abbrev pub in_span : Span → ℕ → Bool

@@ -9,7 +9,7 @@ use layout::verdict::Verdict;
 use pages::draft::Draft;
 use pages::page;
 
-#[derive(Clone, Copy)]
+#[derive(Drop)]
 pub struct Writer<'a> {
     buffer: &'a mut [u8],
     filled: usize,

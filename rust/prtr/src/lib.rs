@@ -21,8 +21,8 @@
 //! # Ok::<(), prtr::Decline>(())
 //! ```
 //!
-//! The archive is found at build time in the directory that `PRTR_LIB` names, or else in `target/staticlib` at the
-//! repository's top, where `rt staticlib prtr` writes it.
+//! The archive is found at build time in the directory that `PRTR_LIB` names, or else in `crates/prtr/out` of the
+//! repository, where `rt lib`, run in `crates/prtr`, writes it.
 
 #![deny(unsafe_code)]
 #![warn(missing_docs)]

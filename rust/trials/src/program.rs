@@ -6,11 +6,11 @@ use std::path::{Path, PathBuf};
 use std::process::{Command, Output, Stdio};
 use std::thread;
 
-/// A program's file: what `PRTR_NAME` names, or else target/bin/name at the repository's top.
+/// A program's file: what `PRTR_NAME` names, or else crates/name/out/name of the repository.
 pub fn path(name: &str) -> PathBuf {
-    let usual = Path::new(env!("CARGO_MANIFEST_DIR")).join("../../target/bin");
+    let crates = Path::new(env!("CARGO_MANIFEST_DIR")).join("../../crates");
     let named = env::var_os(format!("PRTR_{}", name.to_uppercase()));
-    named.map_or(usual.join(name), PathBuf::from)
+    named.map_or(crates.join(name).join("out").join(name), PathBuf::from)
 }
 
 /// A program's file, which must be there.
@@ -18,7 +18,7 @@ pub fn built(name: &str) -> PathBuf {
     let program = path(name);
     assert!(
         program.is_file(),
-        "there is no program {}; `rt check {name}` builds it",
+        "there is no program {}; `rt run`, in crates/{name}, builds it",
         program.display()
     );
     program

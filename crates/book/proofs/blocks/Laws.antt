@@ -1,14 +1,16 @@
 -- A whole journal in memory, part by part. Assumes nothing.
 use mathlib.Core.Path.{◌≡◌, refl, sym, ap, subst, ◌∙◌}
+use mathlib.Core.Bool.{Bool}
 use mathlib.Core.List.{List, [], ◌∷◌}
 use Prim.Native.Nat.{ℕ, zero, suc, ◌+◌, ◌-◌, ◌≤◌, ◌<◌, min}
 use native.Mathlib.Nat.{min-eq_left, min-eq_right}
 use native.Mathlib.Numerals.{add-one}
 use native.Mathlib.Omega.{arith}
 use borrow.Author.Tests.{eq-eqb, ne_eqb}
-use native.Mathlib.Decide.{ℕ_discrete, dec_le}
-use lib.ListN.{length, get_or, take, drop, length-drop, drop_of_length-le}
+use native.Mathlib.Decide.{ℕ_discrete, dec_le, dec_lt}
+use lib.ListN.{length, get_or, take, drop, length-take, length-drop, drop_of_length-le, get_or-eq_default}
 use lib.Seq.{take_all, drop-drop}
+use Rattle.std.proofs.lemmas.List.{get_or-take, get_or-drop}
 use Rattle.amounts.specs.Decline.{Answer, taken, declined}
 use Rattle.amounts.specs.declared.decline.Decline.{Decline}
 use Rattle.layout.specs.Frame.{count_of, body_of, held_at}
@@ -20,7 +22,7 @@ use Rattle.layout.specs.declared.verdict.Verdict.TheVariants.{Accepted, Declined
 use Rattle.book.specs.Block.{setup_by, on_setup, on_year, block_on}
 use Rattle.book.specs.Posts.{posts_on}
 use Rattle.book.specs.Site.{Sound, book_with, fresh_book}
-use Rattle.book.specs.Steps.{guarded, Ran}
+use Rattle.book.specs.Steps.{guarded, year_with, Ran}
 use Rattle.book.specs.Blocks.{parts_to, parts_in, read, refused, onward, read_all}
 use Rattle.book.specs.declared.site.Book.{Book}
 use Rattle.book.specs.declared.site.Year.{Year}
@@ -76,6 +78,14 @@ pub record Upto (s : List ℕ) (b : Book) (at : ℕ) : Type 0 where
 
 pub upto_none : (s : List ℕ) (b : Book) → b ≡ fresh_book → Sound fresh_book → Upto s b 0
 upto_none s b e h = record { inside = omega arith; so_far = ap (λ (x : Book). read_all x x.blocks (parts_in s)) e; sound = subst Sound (sym e) h }
+
+-- the bytes of a part are bytes
+pub part_small : (s : List ℕ) (at n : ℕ) → ((i : ℕ) → get_or s i 0 < 256) → (i : ℕ) → get_or (take n (drop at s)) i 0 < 256
+part_small s at n small i = go (dec_lt i n)
+  where
+    go : Dec (i < n) → get_or (take n (drop at s)) i 0 < 256
+    go (yes h) = omega (arith, get_or-take n (drop at s) i 0 h, get_or-drop at s i 0, small (at + i))
+    go (no d) = omega (arith, get_or-eq_default (take n (drop at s)) 0 {n = i} (omega (arith, length-take n (drop at s))))
 
 -- a part that is read: 512 bytes, or what is left
 module _ (s : List ℕ) (at end : ℕ) (h : at < length s) (e : end ≡ min (at + 512) (length s)) where
@@ -157,3 +167,11 @@ module _ (u : Setup) (y : Year) (n : ℕ) (s : List ℕ) where
 
     pub setup_entered : (v : Verdict) (w : Setup) → guarded v w ≡ setup_by u part (count_of s) (body_of s) → v ≡ Accepted → block_on book s ≡ taken (book_with w y (n + 1))
     setup_entered v w r e = is_framed book s (SetUp part) held ∙ ap (on_setup book) (sym r ∙ ap (λ (x : Verdict). guarded x w) e)
+
+-- ---- where the arms meet
+
+-- what the locals hold, told another way
+pub same_book : {u v : Setup} {store store' sums sums' handled handled' : List ℕ} {posts posts' n : ℕ} {closed closed' : Bool} → u ≡ v → store ≡ store' → sums ≡ sums'
+    → handled ≡ handled' → posts ≡ posts' → closed ≡ closed'
+    → taken (book_with v (year_with store' sums' handled' posts' closed') n) ≡ taken (book_with u (year_with store sums handled posts closed) n)
+same_book a b c d e f = cc

@@ -63,12 +63,16 @@ pub below_zero : (x : Float) (a l : ℕ) → HasValue x true a (2 ^ l) → 0 < a
 unfolding le round
 below_zero (fin false m e) a l v A = absurd (false≢true v.0)
 below_zero (fin true m e) a l v A = rw (ne_eqb (0 * down e) (m * up e * 1) (λ (z : 0 * down e ≡ m * up e * 1). omega (arith, size m e a l v.1 A)))
+below_zero nan a l v A = elim v [ ]
+below_zero (inf _) a l v A = elim v [ ]
 
 over_zero : (x : Float) (a l : ℕ) → HasValue x false a (2 ^ l) → 0 < a → le x (whole 0) ≡ false
 unfolding le round
 over_zero (fin true m e) a l v A = absurd (true≢false v.0)
 over_zero (fin false m e) a l v A =
     rw (le-ltb (m * up e * 1) (0 * down e) (omega arith), ne_eqb (m * up e * 1) (0 * down e) (λ (z : m * up e * 1 ≡ 0 * down e). omega (arith, size m e a l v.1 A)))
+over_zero nan a l v A = elim v [ ]
+over_zero (inf _) a l v A = elim v [ ]
 
 not_zero : (x : Float) (s : Bool) (a l : ℕ) → HasValue x s a (2 ^ l) → 0 < a → in_range (0 to 0) x ≡ false
 not_zero (fin t m e) true a l v A = rw (below_zero (fin t m e) a l v A)
@@ -77,6 +81,8 @@ not_zero (fin t m e) false a l v A = rw (over_zero (fin t m e) a l v A) (none (l
     none : (b : Bool) → (b && false) ≡ false
     none true = refl
     none false = refl
+not_zero nan s a l v A = elim v [ ]
+not_zero (inf _) s a l v A = elim v [ ]
 
 digits_zero : (d : ℕ) (s : Bool) (q k l : ℕ) → in_range (0 to 0) (odd d s q k l) ≡ eqb q 0
 unfolding odd le round

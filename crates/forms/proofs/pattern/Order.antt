@@ -8,7 +8,7 @@ use native.Mathlib.Omega.{arith}
 use lib.IntN.{ℤ}
 use lib.Dec.{T, eqb, leb, ltb}
 use lib.Pow.{pow-add, pow_pos, pow_mono, shl_lt}
-use lib.Ieee.{Float, fin, binary64, up, down, of_fields, of_bits, to_bits, is_nan, le}
+use lib.Ieee.{Float, nan, inf, fin, binary64, up, down, of_fields, of_bits, to_bits, is_nan, le}
 use lib.Ieee.Bits.{nan_bits_is, to_bits-of_bits}
 use lib.Ieee.Exact.{HasValue, odd_sign}
 use lib.Ieee.Fits.{down_pos}
@@ -95,6 +95,10 @@ unfolding le
 below_any (fin false m e) y a b c d p q = absurd (false≢true p.0)
 below_any (fin true m e) (fin true n k) a b c d p q = absurd (true≢false q.0)
 below_any (fin true m e) (fin false n k) a b c d p q = negative (m * up e * down k) (n * up k * down e)
+below_any nan y a b c d p q = elim p [ ]
+below_any (inf _) y a b c d p q = elim p [ ]
+below_any (fin true m e) nan a b c d p q = elim q [ ]
+below_any (fin true m e) (inf _) a b c d p q = elim q [ ]
 
 strict : (a b : ℕ) → (a ≤ b → ⊥) → b < a
 strict a b h = go (leb a b) refl
@@ -111,6 +115,10 @@ above (fin false m e) (fin false n d) a b c C p q h =
     let back = transfer a b c c (m * up e) (n * up d) (down e) (down d) (down_pos e) (down_pos d) (sym p.1) (sym q.1) in
     let s = strict (m * up e * down d) (n * up d * down e) (λ t. let z = le_of_mul-le-mul_right (back t) C in omega (arith, z)) in
     rw (le-ltb (m * up e * down d) (n * up d * down e) (le_of_lt s), ne_eqb (m * up e * down d) (n * up d * down e) (λ (z : m * up e * down d ≡ n * up d * down e). omega (arith, s)))
+above nan y a b c C p q h = elim p [ ]
+above (inf _) y a b c C p q h = elim p [ ]
+above (fin false m e) nan a b c C p q h = elim q [ ]
+above (fin false m e) (inf _) a b c C p q h = elim q [ ]
 
 neither : (a b : ℕ) → 0 < b → (eqb a b && eqb a 0) ≡ false
 neither a b h = go (eqb a 0) refl
@@ -129,6 +137,8 @@ unfolding le
 not_below m e (fin false n d) a c p A = absurd (false≢true p.0)
 not_below m e (fin true n d) a c p A =
     neither (m * up e * down d) (n * up d * down e) (mul-pos (first_pos (n * up d) c (subst (λ (k : ℕ). 0 < k) (sym p.1) (mul-pos A (down_pos d)))) (down_pos e))
+not_below m e nan a c p A = elim p [ ]
+not_below m e (inf _) a c p A = elim p [ ]
 
 -- ---- a pattern in a range that starts at 0 or above
 

@@ -18,8 +18,8 @@ small w n z e h = subst (SFits w) (sym e) (record { sfits = h })
 pub kept : (w : Width) (n : ℕ) (z : ℤ) → z ≡ pos n → n < 2 ^ hbits w → to_z w (of_z w z) ≡ pos n
 kept w n z e h = ap (λ (x : ℤ). to_z w (of_z w x)) e ∙ to_z_pos w n h
 
-pub added : (m n : ℕ) (y : ℤ) → y ≡ pos n → m < 2 ^ 31 → n < 2 ^ 31 → to_z w32 m +ℤ to_z w32 (of_z w32 y) ≡ pos (m + n)
-added m n y e h g = ap₂ (λ (a b : ℤ). a +ℤ b) (to_z_pos w32 m h) (kept w32 n y e g)
+pub added : (m n : ℕ) (x y : ℤ) → x ≡ pos m → y ≡ pos n → n < 2 ^ 31 → x +ℤ to_z w32 (of_z w32 y) ≡ pos (m + n)
+added m n x y d e g = ap₂ (λ (a b : ℤ). a +ℤ b) d (kept w32 n y e g)
 
 pub weighed : (m n : ℕ) (x y : ℤ) → x ≡ pos m → y ≡ pos n → m < 2 ^ 31 → n < 2 ^ 15
     → to_z w32 (of_z w32 x) *ℤ to_z w32 (of_z w32 (to_z w16 (of_z w16 y))) ≡ pos (m * n)

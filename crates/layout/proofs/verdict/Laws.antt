@@ -1,7 +1,6 @@
 -- Going through a table of checks to a verdict, and back from a verdict to the table's answer. Assumes nothing.
 use mathlib.Core.Path.{◌≡◌, refl, sym, ◌∙◌}
-use mathlib.Core.Bool.{Bool, true, false, not, cond}
-use borrow.Author.Tests.{not-true, not-false}
+use mathlib.Core.Bool.{Bool, true, false, cond}
 use mathlib.Core.List.{List, [], ◌∷◌}
 use Prim.Native.Nat.{ℕ}
 use native.Mathlib.Omega.{arith}
@@ -12,11 +11,11 @@ use Rattle.layout.specs.declared.verdict.Verdict.{Verdict}
 use Rattle.layout.specs.declared.verdict.Verdict.TheVariants.{Accepted, Declined}
 
 -- what a branch on a test's negation tells of the test
-pub holds : {r t : Bool} → r ≡ t → not r ≡ false → t ≡ true
-holds {r} e n = sym e ∙ not-false r n
+pub holds : {r t : Bool} → r ≡ t → r ≡ true → t ≡ true
+holds e n = sym e ∙ n
 
-pub misses : {r t : Bool} → r ≡ t → not r ≡ true → t ≡ false
-misses {r} e n = sym e ∙ not-true r n
+pub misses : {r t : Bool} → r ≡ t → r ≡ false → t ≡ false
+misses e n = sym e ∙ n
 
 module _ {A : Type 0} where
   -- a check that passes is left behind

@@ -31,6 +31,7 @@ T_of e = subst T (sym e) tt
 
 of_T : (b : Bool) → T b → b ≡ true
 of_T true t = refl
+of_T false t = elim t [ ]
 
 -- two tests that pass together are one
 same_test : (a b : Bool) → (T a → T b) → (T b → T a) → a ≡ b
@@ -53,6 +54,7 @@ ordered a b =
     there : (p q : Bool) → (T p → a ≤ b) → (T q → a ≤ b) → T (p || (q && true)) → T (leb a b)
     there true q f g t = le→leb a b (f tt)
     there false true f g t = le→leb a b (g tt)
+    there false false f g t = elim t [ ]
 
     back : (p q : Bool) → T p ⊎ T q → T (p || (q && true))
     back true q h = tt
@@ -80,6 +82,8 @@ pub data FromOne : Float → Type 0 where
 exact : (a : ℕ) (x : Float) → HasValue x false a 1 → Exactly a x
 exact a (fin true m e) v = absurd (true≢false v.0)
 exact a (fin false m e) v = exactly m e (sym (mul-one (m * up e)) ∙ v.1)
+exact a nan v = elim v [ ]
+exact a (inf _) v = elim v [ ]
 
 exact_whole : (n : ℕ) → n ≤ 2 ^ 53 → Exactly n (whole n)
 exact_whole n h = exact n (whole n) (round_whole binary64 false n h)
@@ -124,6 +128,7 @@ enclosed {n} {b = b} (fin false m e) (exactly l j v) (exactly h k w) r p q =
     within false m e (λ t. absurd t) (size_le (m * up e) (down e) (h * up k) (down k) b (2 ^ n) (down_pos k) (at_most (m * up e * down k) (h * up k * down e) q) w r)
 enclosed (fin true m e) (exactly l j v) (exactly h k w) r p q =
     zero_size true m e (no_product (m * up e) (down j) (down_pos j) (both_zero (l * up j * down e) (m * up e * down j) p).1)
+enclosed {n = n} {a = a} {b = b} {lo = lo} {hi = hi} nan _ _ r p q = elim q [ ]
 
 -- above the whole number 1
 from_one_lem : {lo : Float} (x : Float) → Exactly 1 lo → T (finite x) → T (le lo x) → FromOne x
@@ -132,9 +137,13 @@ from_one_lem (fin false m e) (exactly l j v) f p = from_one m e (size_ge (m * up
 from_one_lem (fin true m e) (exactly l j v) f p =
     let none = no_product (l * up j) (down e) (down_pos e) (both_zero (l * up j * down e) (m * up e * down j) p).0 in
     absurd (lt_irrefl 0 (subst (λ (x : ℕ). 0 < x) (sym (one-mul (down j)) ∙ sym v ∙ none) (down_pos j)))
+from_one_lem {lo = lo} nan _ f p = elim f [ ]
+from_one_lem {lo = lo} (inf _) _ f p = elim f [ ]
 
 zero_value : {n : ℕ} (s : Bool) (x : Float) (c : ℕ) → 0 < c → HasValue x s 0 c → Within n x
 zero_value s (fin t m e) c C v = zero_size t m e (no_product (m * up e) c C (v.1 ∙ zero-mul (down e)))
+zero_value {n = n} s nan c C v = elim v [ ]
+zero_value {n = n} s (inf _) c C v = elim v [ ]
 
 -- ---- the operations
 -- the one rounding of an operation whose exact result, ±a / c, is from 0 to 2 ^ n
@@ -151,6 +160,8 @@ rounded {n} true a c r C z h =
 mul_sign : (s t : Bool) (x y : ℕ) → (T s → x ≡ 0) → (T t → y ≡ 0) → T (unlike s t) → x * y ≡ 0
 mul_sign true false x y f g h = ap (λ (z : ℕ). z * y) (f tt) ∙ zero-mul y
 mul_sign false true x y f g h = ap (λ (z : ℕ). x * z) (g tt) ∙ mul-zero x
+mul_sign false false x y f g h = elim h [ ]
+mul_sign true true x y f g h = elim h [ ]
 
 -- a product is at most the product of the bounds
 pub mul_within : {i j : ℕ} {x y : Float} → Within i x → Within j y → i + j ≤ 1023 → Within (i + j) (x ⊗ y)
@@ -176,6 +187,8 @@ either false x y f g = g
 
 alike : (s t : Bool) → T (beq s t) → T s → T t
 alike true true p q = tt
+alike false t p q = elim q [ ]
+alike true false p q = elim p [ ]
 
 -- what `add` does with ±a / c and ±b / c
 sum_within : {i : ℕ} (s t : Bool) (a b c : ℕ) → suc i ≤ 1023 → 0 < c → (T s → a ≡ 0) → (T t → b ≡ 0) → a ≤ 2 ^ i * c → b ≤ 2 ^ i * c
@@ -220,6 +233,7 @@ not_at_most a b = same_test (not (leb a b)) (ltb b a) (λ t. lt→ltb b a (nleb�
 -- what is negative does not exceed
 passed : (a b : Bool) → T a → not (a || b) ≡ false
 passed true b t = refl
+passed false b t = elim t [ ]
 
 -- decline 9 is just that a finite loss exceeds the limit
 pub exceeds : (x : Float) → finite x ≡ true → not (le x (whole 2000000)) ≡ lt (whole 2000000) x

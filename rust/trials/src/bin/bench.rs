@@ -255,7 +255,7 @@ fn bench_memory(years: &[Vec<Block>]) {
     let program = program::path("filing");
     if !program.is_file() {
         let program = program.display();
-        println!("\nmemory: there is no program {program}; `rt check filing` builds it");
+        println!("\nmemory: there is no program {program}; `rt run`, in crates/filing, builds it");
         return;
     }
     println!("\nmemory of the program filing, most kB before its input ends");

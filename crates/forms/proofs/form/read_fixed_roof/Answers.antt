@@ -15,8 +15,8 @@ read_inputs-requires c = fixed_upward
 
 pub returns-in-Values : goal.returns-in-Values
 unfolding form_of of_bits round
-returns-in-Values c = filled _ _ _ _ of_inputs fixed_ranges _ _ c.read_inputs.ensures c.x-1.given.1
+returns-in-Values c = filled _ _ _ _ of_inputs fixed_ranges _ _ c.read_inputs.ensures c.in-Values.is
 
 pub returns-in-Declined : goal.returns-in-Declined
 unfolding form_of of_bits round
-returns-in-Declined c = filled _ _ _ _ of_inputs fixed_ranges _ _ c.read_inputs.ensures c.d-1.given.1
+returns-in-Declined c = filled _ _ _ _ of_inputs fixed_ranges _ _ c.read_inputs.ensures c.in-Declined.is
