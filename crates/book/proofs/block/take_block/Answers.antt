@@ -1,7 +1,5 @@
 use mathlib.Core.Path.{◌≡◌, sym, ap, ◌∙◌}
-use Prim.Native.Nat.{ℕ, ◌<◌}
 use native.Mathlib.Omega.{arith}
-use lib.ListN.{get_or}
 use Rattle.amounts.specs.Decline.{Answer, taken}
 use Rattle.layout.specs.Frame.{held_at}
 use Rattle.layout.specs.Holds.{answer}

@@ -2,7 +2,6 @@ use mathlib.Core.Path.{◌≡◌}
 use Prim.Native.Nat.{◌-◌, ◌≤◌}
 use Rattle.amounts.specs.Decline.{taken}
 use Rattle.layout.specs.Posts.{part_of}
-use Rattle.post.specs.Moves as moves
 use Rattle.book.specs.Posts.{taken_to}
 use Rattle.book.specs.Steps.{year_with}
 use Rattle.book.proofs.posts.run.Given as goal

@@ -1,15 +1,9 @@
 use mathlib.Core.Path.{◌≡◌, sym}
-use mathlib.Core.Bool.{Bool}
 use mathlib.Core.List.{List}
-use Prim.Native.Nat.{ℕ}
 use native.Mathlib.Omega.{arith}
 use Rattle.amounts.specs.Decline.{Check, taken}
 use Rattle.layout.specs.Posts.{own_checks}
-use Rattle.layout.specs.Verdict.{verdict_of}
-use Rattle.layout.specs.declared.verdict.Verdict.{Verdict}
-use Rattle.layout.specs.declared.verdict.Verdict.TheVariants.{Accepted}
-use Rattle.layout.proofs.posts.Laws.{Owned, owned}
-use Rattle.plant.specs.declared.setup.Setup.{Setup}
+use Rattle.layout.proofs.posts.Laws.{owned}
 use Rattle.plant.proofs.Ended.{table_declined, table_accepted}
 use Rattle.book.specs.Steps.{year_with}
 use Rattle.book.specs.declared.site.Year.{Year}

@@ -4,8 +4,6 @@ use lib.ListN.{length}
 use Rattle.layout.specs.Posts.{part_of}
 use Rattle.book.specs.Answer.{outcome}
 use Rattle.book.specs.Posts.{taken_to, single_on}
-use Rattle.book.specs.Steps.{year_with}
-use Rattle.book.specs.declared.site.Year.{Year}
 use Rattle.book.proofs.answer.Laws.{sound_after}
 use Rattle.book.proofs.posts.Laws.{ran_outcome, single_is, single_sound}
 use Rattle.book.proofs.posts.take_post.Goals as goal

@@ -1,8 +1,6 @@
 use Prim.Native.Nat.{◌+◌}
 use native.Mathlib.Omega.{arith}
 use Rattle.book.specs.Posts.{posts_on}
-use Rattle.book.specs.Steps.{year_with}
-use Rattle.book.specs.declared.site.Year.{Year}
 use Rattle.book.proofs.posts.Laws.{ran_outcome}
 use Rattle.book.proofs.posts.take_posts.Goals as goal
 

@@ -1,6 +1,4 @@
 use mathlib.Core.Path.{refl}
-use mathlib.Core.Bool.{true}
-use Prim.Native.Nat.{◌-◌}
 use lib.Dec.{eqb}
 use lib.ListN.{length, get_or}
 use borrow.Author.Rules.{rules}

@@ -6,19 +6,11 @@ use Rattle.layout.proofs.frame.Laws.{framed, not_held, is_held}
 use Rattle.layout.proofs.verdict.Laws.{accepts, declines}
 use Rattle.layout.proofs.frame.read_frame.Goals as goal
 
--- NEED? enum-known-d
--- enum-known-d : tie.Need-enum-known-d
--- enum-known-d c = search rules
-
 pub returns-in-Declined : goal.returns-in-Declined
 returns-in-Declined c =
     let a = c.args in
     sym (not_held a.number a.s.now c.in-Declined.d.number
     (declines (tt {0}) a.s.now (frame_checks a.number a.s.now) c.in-Declined.d (sym c.in-Declined.is ∙ c.check_frame.ensures)))
-
--- NEED? enum-told
--- enum_told : tie.Need-enum-told
--- enum_told c = search rules
 
 pub bounds-s-4 : goal.bounds-s-4
 bounds-s-4 c =

@@ -3,14 +3,6 @@ use Rattle.amounts.specs.Decline.{is_taken}
 use Rattle.layout.specs.Holds.{answer}
 use Rattle.layout.proofs.holds.is_kind.Goals as goal
 
--- NEED? enum-told
--- enum_told : tie.Need-enum-told
--- enum_told c = search rules
-
--- NEED? enum-told-2
--- enum-told-2 : tie.Need-enum-told-2
--- enum-told-2 c = search rules
-
 pub returns-in-Known : goal.returns-in-Known
 returns-in-Known c = ap is_taken (sym (ap answer c.in-Known.is) ∙ c.holds_of.ensures)
 
