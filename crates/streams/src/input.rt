@@ -1,7 +1,7 @@
 // Standard input, a part at a time.
-ghost use Rattle.std.specs.Prelude.{◌≡◌, ◌-◌, ◌≤◌, length, take, drop};
+ghost use Rattle.std.specs.Prelude.{◌≡◌, ◌-◌, ◌≤◌, ◌<◌, length, take, drop};
 ghost use Rattle.std.specs.IoError.{raw_os_error};
-ghost use Rattle.streams.specs.Input.{Moved, Took, error_number, most_parts, was_interrupted, Behind, progress_of, after_read, Filled, PartTook, Reads, bytes_in};
+ghost use Rattle.streams.specs.Input.{Moved, Took, error_number, most_parts, was_interrupted, Behind, progress_of, after_read, GoesOn, Filled, PartTook, Reads, bytes_in};
 
 use std::io::{Error, Read, Stdin};
 
@@ -143,6 +143,15 @@ fn after_read(done: usize, room: usize, got: isize) -> Progress
     Progress::Done(Part::End)
 }
 
+// A part that goes on, of which so many bytes are there, with one read more.
+fn read_on<R: Read>(from: &mut R, part: &mut [u8], done: usize) -> Progress
+    requires { done < length part.old }
+    ensures { GoesOn (R.remaining from.old) (R.remaining from.new) done part.old part.new result }
+{
+    let got = read_behind(from, part, done);
+    after_read(done, part.len(), got)
+}
+
 // Reads until the part is full, the input ends or a read fails.
 fn fill<R: Read>(from: &mut R, part: &mut [u8]) -> Part
     ensures filled { Filled part.old part.new result }
@@ -152,10 +161,7 @@ fn fill<R: Read>(from: &mut R, part: &mut [u8]) -> Part
     let mut progress = progress_of(0, room);
     loop {
         match progress {
-            Progress::More(done) => {
-                let got = read_behind(from, part, done);
-                progress = after_read(done, room, got);
-            }
+            Progress::More(done) => progress = read_on(from, part, done),
             Progress::Done(p) => return p,
         }
     }
