@@ -1,6 +1,5 @@
 -- Standard input, a part at a time. What a read of it brings, no contract says; what is said of its answer is, and what a read of an input of known bytes brings.
-use Rattle.std.specs.Prelude.{ℕ, ◌+◌, ◌-◌, ◌^◌, ◌<◌, ◌≤◌, min, ◌≡◌, Bool, false, cond, List, [], eqb, ℤ, pos, negsuc, length, take, drop}
-use Rattle.std.specs.Prelude.{Option, None, Some}
+use Rattle.std.specs.Prelude.{ℕ, ◌+◌, ◌-◌, ◌^◌, ◌<◌, ◌≤◌, min, ◌≡◌, Bool, false, cond, Option, None, Some, List, [], eqb, ℤ, pos, negsuc, length, take, drop}
 use Rattle.std.specs.Io.KnownBytes.{Consumes, Keeps, IsAtEnd}
 use Rattle.streams.specs.declared.input.Part.{Part}
 use Rattle.streams.specs.declared.input.Part.TheVariants.{Full, Short, End, Failed}
