@@ -1,5 +1,6 @@
--- Standard input, a part at a time. What a read brings, no contract says; what is said of its answer is.
-use Rattle.std.specs.Prelude.{ℕ, ◌+◌, ◌-◌, ◌^◌, ◌<◌, ◌≤◌, min, ◌≡◌, Bool, false, cond, List, eqb, ℤ, pos, negsuc, length, take}
+-- Standard input, a part at a time. What a read of it brings, no contract says; what is said of its answer is, and what a read of an input of known bytes brings.
+use Rattle.std.specs.Prelude.{ℕ, ◌+◌, ◌-◌, ◌^◌, ◌<◌, ◌≤◌, min, ◌≡◌, Bool, false, cond, Option, None, Some, List, [], eqb, ℤ, pos, negsuc, length, take, drop}
+use Rattle.std.specs.Io.KnownBytes.{Consumes, Keeps, IsAtEnd}
 use Rattle.streams.specs.declared.input.Part.{Part}
 use Rattle.streams.specs.declared.input.Part.TheVariants.{Full, Short, End, Failed}
 use Rattle.streams.specs.declared.input.Progress.{Progress}
@@ -12,6 +13,16 @@ use Rattle.streams.specs.declared.input.Taken.{Taken}
 abbrev pub Moved : ℕ → ℤ → Type 0
 Moved n (pos k) = k ≤ n
 Moved n (negsuc k) = k ≡ 0
+
+-- what a read does to an input of known bytes: what it moved are the next ones, it moves none only at the end, and a read that fails leaves all
+abbrev pub Took : Option (List ℕ) → Option (List ℕ) → List ℕ → ℤ → Type 0
+Took before after given (pos n) = Consumes before after (take n given) × (n ≡ 0 → 0 < length given → IsAtEnd after)
+Took before after given (negsuc n) = Keeps before after
+
+-- an error that isn't the system's has no number, and counts as 0
+abbrev pub error_number : Option ℤ → ℤ
+error_number None = pos 0
+error_number (Some n) = n
 
 abbrev pub is_number : ℕ → ℤ → Bool
 is_number n (pos k) = eqb k n
@@ -43,6 +54,10 @@ abbrev pub after_read : ℕ → ℕ → ℤ → Progress
 after_read done room (negsuc n) = Done Failed
 after_read done room (pos n) = cond (eqb n 0) (Done (end_behind done)) (progress_of (done + n) room)
 
+-- one read more, of a part that goes on
+abbrev pub GoesOn : Option (List ℕ) → Option (List ℕ) → ℕ → List ℕ → List ℕ → Progress → Type 0
+GoesOn before after done given part p = (got : ℤ) × Behind done given part got × Took before after (drop done part) got × (p ≡ after_read done (length part) got)
+
 -- how many of the bytes asked for a part holds, from the first on: an end or a failure gives none
 abbrev pub bytes_in : ℕ → Part → ℕ
 bytes_in room Full = room
@@ -60,6 +75,13 @@ Holds room Failed = Unit {0}
 pub record Filled (given after : List ℕ) (p : Part) : Type 0 where
   pub same_length : length after ≡ length given
   pub holds : Holds (length given) p
+
+-- what a part holds of an input of known bytes: the next ones, with none behind a short part or an end; where a read failed, some may be gone
+abbrev pub PartTook : Option (List ℕ) → Option (List ℕ) → List ℕ → Part → Type 0
+PartTook before after given Full = Consumes before after given
+PartTook before after given (Short n) = Consumes before after (take n given) × IsAtEnd after
+PartTook before after given End = Consumes before after [] × IsAtEnd after
+PartTook before after given Failed = (n : ℕ) × Consumes before after (take n given)
 
 -- ---- parts
 

@@ -1,6 +1,7 @@
 // Standard input, a part at a time.
-ghost use Rattle.std.specs.Prelude.{◌≡◌, ◌-◌, ◌≤◌, length, take};
-ghost use Rattle.streams.specs.Input.{Moved, most_parts, was_interrupted, Behind, progress_of, after_read, Filled, Reads, bytes_in};
+ghost use Rattle.std.specs.Prelude.{◌≡◌, ◌-◌, ◌≤◌, ◌<◌, length, take, drop};
+ghost use Rattle.std.specs.IoError.{raw_os_error};
+ghost use Rattle.streams.specs.Input.{Moved, Took, error_number, most_parts, was_interrupted, Behind, progress_of, after_read, GoesOn, Filled, PartTook, Reads, bytes_in};
 
 use std::io::{Error, Read, Stdin};
 
@@ -13,7 +14,7 @@ pub enum Part {
     Failed,
 }
 
-// How many parts may still be asked for: a program ends, and nothing says that its input does.
+// Standard input, and how many parts may still be asked for: a program ends, and nothing says that its input does.
 #[derive(Clone, Copy)]
 pub struct Input {
     from: Stdin,
@@ -65,16 +66,18 @@ fn is_interrupted(got: isize, error: i32) -> bool
 }
 
 // The system's number for an error; any other error has none.
-fn number_of(e: Error) -> i32 {
+fn number_of(e: Error) -> i32
+    ensures { result ≡ error_number (raw_os_error e) }
+{
     e.raw_os_error().unwrap_or(0)
 }
 
 // One read.
-fn read_once(from: Stdin, free: &mut [u8]) -> Answer
+fn read_once<R: Read>(from: &mut R, free: &mut [u8]) -> Answer
     ensures moved { Moved (length free.old) result.got }
     ensures free_len_unchanged { length free.new ≡ length free.old }
+    ensures took { Took (R.remaining from.old) (R.remaining from.new) free.new result.got }
 {
-    let mut from = from;
     match from.read(free) {
         Ok(n) => Answer {
             got: n as isize,
@@ -88,9 +91,10 @@ fn read_once(from: Stdin, free: &mut [u8]) -> Answer
 }
 
 // One read, tried again where a signal interrupted it before it moved a byte.
-fn read_again(from: Stdin, free: &mut [u8]) -> isize
+fn read_again<R: Read>(from: &mut R, free: &mut [u8]) -> isize
     ensures moved { Moved (length free.old) result }
     ensures free_len_unchanged { length free.new ≡ length free.old }
+    ensures took { Took (R.remaining from.old) (R.remaining from.new) free.new result }
 {
     let mut tries = TRIES;
     while tries > 0 {
@@ -104,9 +108,10 @@ fn read_again(from: Stdin, free: &mut [u8]) -> isize
 }
 
 // One read of what follows the bytes that are there.
-fn read_behind(from: Stdin, part: &mut [u8], done: usize) -> isize
+fn read_behind<R: Read>(from: &mut R, part: &mut [u8], done: usize) -> isize
     requires { done ≤ length part.old }
-    ensures { Behind done part.old part.new result }
+    ensures behind { Behind done part.old part.new result }
+    ensures took { Took (R.remaining from.old) (R.remaining from.new) (drop done part.new) result }
 {
     read_again(from, &mut part[done..])
 }
@@ -138,18 +143,25 @@ fn after_read(done: usize, room: usize, got: isize) -> Progress
     Progress::Done(Part::End)
 }
 
+// A part that goes on, of which so many bytes are there, with one read more.
+fn read_on<R: Read>(from: &mut R, part: &mut [u8], done: usize) -> Progress
+    requires { done < length part.old }
+    ensures { GoesOn (R.remaining from.old) (R.remaining from.new) done part.old part.new result }
+{
+    let got = read_behind(from, part, done);
+    after_read(done, part.len(), got)
+}
+
 // Reads until the part is full, the input ends or a read fails.
-fn fill(from: Stdin, part: &mut [u8]) -> Part
-    ensures { Filled part.old part.new result }
+fn fill<R: Read>(from: &mut R, part: &mut [u8]) -> Part
+    ensures filled { Filled part.old part.new result }
+    ensures took { PartTook (R.remaining from.old) (R.remaining from.new) part.new result }
 {
     let room = part.len();
     let mut progress = progress_of(0, room);
     loop {
         match progress {
-            Progress::More(done) => {
-                let got = read_behind(from, part, done);
-                progress = after_read(done, room, got);
-            }
+            Progress::More(done) => progress = read_on(from, part, done),
             Progress::Done(p) => return p,
         }
     }
@@ -165,14 +177,13 @@ pub fn read_part(from: Input, part: &mut [u8]) -> Taken
             input: from,
         };
     }
+    let mut reader = from.from;
+    let part = fill(&mut reader, part);
     let input = Input {
-        from: from.from,
+        from: reader,
         left: from.left - 1,
     };
-    Taken {
-        part: fill(from.from, part),
-        input,
-    }
+    Taken { part, input }
 }
 
 fn count_of(part: Part, room: usize) -> usize
