@@ -12,7 +12,6 @@ use Rattle.layout.specs.Frame.{body_of, block_of}
 use Rattle.layout.specs.declared.holds.SetupPart.{SetupPart}
 use Rattle.layout.specs.declared.outline.Outline.{Outline}
 use Rattle.layout.proofs.frame.Made.{made_long}
-use Rattle.pages.specs.Calls.{set_up}
 use Rattle.encoding.specs.Bytes.{placed}
 use Rattle.pages.specs.Page as page
 use Rattle.pages.specs.Page.{Page, page_of, draft_of, with_part, finished, posts_block, with_post, posted}
