@@ -3,6 +3,7 @@
 
 use std::ffi::OsStr;
 use std::fs::{self, File};
+use std::io;
 use std::path::{Path, PathBuf};
 use std::process::{Command, Output, Stdio};
 
@@ -128,6 +129,21 @@ fn what_is_no_output_is_told() {
         expect("a full device", &out, b"", &unwritten(name));
         let out = run(&mut closed(&program, ">&-"), open(&input));
         expect("a closed output", &out, b"", &unwritten(name));
+    }
+}
+
+#[test]
+fn a_pipe_whose_reader_is_gone_is_told() {
+    for (name, input) in inputs() {
+        let (reader, writer) = io::pipe().expect("there is a pipe");
+        drop(reader);
+        let mut command = Command::new(program::built(name));
+        command.stdin(open(&input)).stdout(writer);
+        let child = command.stderr(Stdio::piped()).spawn();
+        let out = child.and_then(|child| child.wait_with_output());
+        let out = out.expect("the program runs");
+        assert!(out.status.success(), "ended with {}", out.status);
+        expect("a pipe with no reader", &out, b"", &unwritten(name));
     }
 }
 
