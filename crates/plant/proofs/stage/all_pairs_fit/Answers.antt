@@ -16,13 +16,15 @@ loop-i-init c = (search rules, refl)
 
 pub returns-then-not-pair_fits : goal.returns-then-not-pair_fits
 returns-then-not-pair_fits c =
-    let row_told : c.pair_fits.result ≡ pair_fits (side_row c.args.s.now c.loop-i.i) (rate_row c.args.s.now c.loop-i.i) = c.pair_fits.ensures ∙ ap₂ (λ (byte : ℕ) (r : Rates). pair_fits (second_of byte) r) c.byte_at.ensures c.rates_at.ensures in
+    let row_told : c.pair_fits.result ≡ pair_fits (side_row c.args.s.now c.loop-i.i) (rate_row c.args.s.now c.loop-i.i) =
+    c.pair_fits.ensures ∙ ap₂ (λ (byte : ℕ) (r : Rates). pair_fits (second_of byte) r) c.byte_at.ensures c.rates_at.ensures in
     let a = c.args in
     all_fails a.n (λ j. pair_fits (side_row a.s.now j) (rate_row a.s.now j)) c.loop-i.i (search rules) (misses row_told c.if-not-pair_fits.true)
 
 pub loop-i-preserved : goal.loop-i-preserved
 loop-i-preserved c =
-    let row_told : c.pair_fits.result ≡ pair_fits (side_row c.args.s.now c.loop-i.i) (rate_row c.args.s.now c.loop-i.i) = c.pair_fits.ensures ∙ ap₂ (λ (byte : ℕ) (r : Rates). pair_fits (second_of byte) r) c.byte_at.ensures c.rates_at.ensures in
+    let row_told : c.pair_fits.result ≡ pair_fits (side_row c.args.s.now c.loop-i.i) (rate_row c.args.s.now c.loop-i.i) =
+    c.pair_fits.ensures ∙ ap₂ (λ (byte : ℕ) (r : Rates). pair_fits (second_of byte) r) c.byte_at.ensures c.rates_at.ensures in
     let a = c.args in (
       search rules,
       all_again c.loop-i.i (λ j. pair_fits (side_row a.s.now j) (rate_row a.s.now j)) c.loop-i.invariant.1 (holds row_told c.if-not-pair_fits.false),

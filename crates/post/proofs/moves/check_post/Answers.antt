@@ -13,7 +13,8 @@ use Rattle.post.proofs.moves.check_post.Goals as goal
 pub returns-then-floats_fit : goal.returns-then-floats_fit
 returns-then-floats_fit c =
     let post : Laid = c.in-Known.l in
-    let found : let a = c.args in (r : Row) × (laid_out a.o a.s.now ≡ taken r) × (post ≡ laid_as (post_at a.s.now) r) = known_laid (post_at c.args.s.now) _ post (sym (ap laid_answer c.in-Known.is) ∙ c.read_post.ensures) in
+    let found : let a = c.args in (r : Row) × (laid_out a.o a.s.now ≡ taken r) × (post ≡ laid_as (post_at a.s.now) r) =
+    known_laid (post_at c.args.s.now) _ post (sym (ap laid_answer c.in-Known.is) ∙ c.read_post.ensures) in
     let as_found : floats_fit found.0.measure (post_at c.args.s.now) ≡ floats_fit post.measure post.post = sym (ap (λ (l : Laid). floats_fit l.measure l.post) found.2) in
     let a = c.args in
     formed a.o a.s.now found.0 found.1 (as_found ∙ sym c.floats_fit.ensures ∙ c.if-floats_fit.true)
@@ -21,7 +22,8 @@ returns-then-floats_fit c =
 pub returns-else-floats_fit : goal.returns-else-floats_fit
 returns-else-floats_fit c =
     let post : Laid = c.in-Known.l in
-    let found : let a = c.args in (r : Row) × (laid_out a.o a.s.now ≡ taken r) × (post ≡ laid_as (post_at a.s.now) r) = known_laid (post_at c.args.s.now) _ post (sym (ap laid_answer c.in-Known.is) ∙ c.read_post.ensures) in
+    let found : let a = c.args in (r : Row) × (laid_out a.o a.s.now ≡ taken r) × (post ≡ laid_as (post_at a.s.now) r) =
+    known_laid (post_at c.args.s.now) _ post (sym (ap laid_answer c.in-Known.is) ∙ c.read_post.ensures) in
     let as_found : floats_fit found.0.measure (post_at c.args.s.now) ≡ floats_fit post.measure post.post = sym (ap (λ (l : Laid). floats_fit l.measure l.post) found.2) in
     let a = c.args in
     no_range a.o a.s.now found.0 found.1 (as_found ∙ sym c.floats_fit.ensures ∙ c.if-floats_fit.false)

@@ -17,7 +17,8 @@ use Rattle.post.proofs.moves.read_move.Goals as goal
 pub measure-requires : goal.measure-requires
 measure-requires c e =
     let post : Laid = c.in-Known.l in
-    let found : let a = c.args in (r : Row) × (laid_out a.o a.s.now ≡ taken r) × (post ≡ laid_as (post_at a.s.now) r) = known_laid (post_at c.args.s.now) _ post (sym (ap laid_answer c.in-Known.is) ∙ c.read_post.ensures) in
+    let found : let a = c.args in (r : Row) × (laid_out a.o a.s.now ≡ taken r) × (post ≡ laid_as (post_at a.s.now) r) =
+    known_laid (post_at c.args.s.now) _ post (sym (ap laid_answer c.in-Known.is) ∙ c.read_post.ensures) in
     let a = c.args in
     let p : Post = post_at a.s.now in
     let r = found.0 in
@@ -30,8 +31,10 @@ measure-requires c e =
 pub returns-in-Micrograms : goal.returns-in-Micrograms
 returns-in-Micrograms c =
     let post : Laid = c.in-Known.l in
-    let found : let a = c.args in (r : Row) × (laid_out a.o a.s.now ≡ taken r) × (post ≡ laid_as (post_at a.s.now) r) = known_laid (post_at c.args.s.now) _ post (sym (ap laid_answer c.in-Known.is) ∙ c.read_post.ensures) in
-    let as_measured : losses.answer c.measure.result ≡ amount_read found.0.measure c.args.numbers.now (post_at c.args.s.now) = c.measure.ensures ∙ ap (λ (l : Laid). amount_read l.measure c.args.numbers.now l.post) found.2 in
+    let found : let a = c.args in (r : Row) × (laid_out a.o a.s.now ≡ taken r) × (post ≡ laid_as (post_at a.s.now) r) =
+    known_laid (post_at c.args.s.now) _ post (sym (ap laid_answer c.in-Known.is) ∙ c.read_post.ensures) in
+    let as_measured : losses.answer c.measure.result ≡ amount_read found.0.measure c.args.numbers.now (post_at c.args.s.now) =
+    c.measure.ensures ∙ ap (λ (l : Laid). amount_read l.measure c.args.numbers.now l.post) found.2 in
     let a = c.args in
     let is : c.move_of.result ≡ move_of found.0.does (post_at a.s.now) c.in-Micrograms.n =
     c.move_of.ensures ∙ ap (λ (l : Laid). move_of l.does l.post c.in-Micrograms.n) found.2 in
@@ -41,8 +44,10 @@ returns-in-Micrograms c =
 pub returns-in-Declined-measure : goal.returns-in-Declined-measure
 returns-in-Declined-measure c =
     let post : Laid = c.in-Known.l in
-    let found : let a = c.args in (r : Row) × (laid_out a.o a.s.now ≡ taken r) × (post ≡ laid_as (post_at a.s.now) r) = known_laid (post_at c.args.s.now) _ post (sym (ap laid_answer c.in-Known.is) ∙ c.read_post.ensures) in
-    let as_measured : losses.answer c.measure.result ≡ amount_read found.0.measure c.args.numbers.now (post_at c.args.s.now) = c.measure.ensures ∙ ap (λ (l : Laid). amount_read l.measure c.args.numbers.now l.post) found.2 in
+    let found : let a = c.args in (r : Row) × (laid_out a.o a.s.now ≡ taken r) × (post ≡ laid_as (post_at a.s.now) r) =
+    known_laid (post_at c.args.s.now) _ post (sym (ap laid_answer c.in-Known.is) ∙ c.read_post.ensures) in
+    let as_measured : losses.answer c.measure.result ≡ amount_read found.0.measure c.args.numbers.now (post_at c.args.s.now) =
+    c.measure.ensures ∙ ap (λ (l : Laid). amount_read l.measure c.args.numbers.now l.post) found.2 in
     let a = c.args in
     no_amount a.o a.s.now found.0 found.1 a.numbers.now c.in-Declined-measure.d.number
     (sym (ap losses.answer c.in-Declined-measure.is) ∙ as_measured)

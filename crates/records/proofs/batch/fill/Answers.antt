@@ -39,7 +39,8 @@ overflow_add-at c =
     let page : Page = page_of c.loop-at.buffer c.loop-at.filled c.loop-at.draft in
     let after : Page = page_of c.take_first-taken.new.buffer c.take_first-taken.result.filled c.take_first-taken.result.draft in
     let inside : c.loop-at.at < length bytes = omega (arith, c.loop-at-test) in
-    let ends : c.take_first-taken.result.verdict ≡ Accepted → c.loop-at.at + span_of rest ≤ length bytes = λ e. upto_within bytes c.args.buffer.now page after c.loop-at.at inside c.loop-at.invariant c.take_first-taken.result.verdict rest
+    let ends : c.take_first-taken.result.verdict ≡ Accepted → c.loop-at.at + span_of rest ≤ length bytes =
+    λ e. upto_within bytes c.args.buffer.now page after c.loop-at.at inside c.loop-at.invariant c.take_first-taken.result.verdict rest
     (tail_is c.loop-at.at bytes) c.take_first-taken.ensures e in
     omega (arith, ends c.in_default.is, c.span_of-at.ensures, inside)
 
@@ -50,7 +51,8 @@ loop-at-smaller c =
     let page : Page = page_of c.loop-at.buffer c.loop-at.filled c.loop-at.draft in
     let after : Page = page_of c.take_first-taken.new.buffer c.take_first-taken.result.filled c.take_first-taken.result.draft in
     let inside : c.loop-at.at < length bytes = omega (arith, c.loop-at-test) in
-    let ends : c.take_first-taken.result.verdict ≡ Accepted → c.loop-at.at + span_of rest ≤ length bytes = λ e. upto_within bytes c.args.buffer.now page after c.loop-at.at inside c.loop-at.invariant c.take_first-taken.result.verdict rest
+    let ends : c.take_first-taken.result.verdict ≡ Accepted → c.loop-at.at + span_of rest ≤ length bytes =
+    λ e. upto_within bytes c.args.buffer.now page after c.loop-at.at inside c.loop-at.invariant c.take_first-taken.result.verdict rest
     (tail_is c.loop-at.at bytes) c.take_first-taken.ensures e in
     omega (arith, ends c.in_default.is, c.span_of-at.ensures, inside)
 

@@ -34,7 +34,8 @@ overflow_add-at c =
     let bytes : List ℕ = c.args.records.now in
     let rest : List ℕ = take (length bytes - c.loop-at.at) (drop c.loop-at.at bytes) in
     let inside : c.loop-at.at < length bytes = omega (arith, c.loop-at-test) in
-    let ends : c.count_first-counted.result.verdict ≡ Accepted → c.loop-at.at + span_of rest ≤ length bytes = λ e. counting_within bytes c.args.room c.loop-at.t c.count_first-counted.result.tally c.loop-at.place c.loop-at.at inside c.loop-at.invariant
+    let ends : c.count_first-counted.result.verdict ≡ Accepted → c.loop-at.at + span_of rest ≤ length bytes =
+    λ e. counting_within bytes c.args.room c.loop-at.t c.count_first-counted.result.tally c.loop-at.place c.loop-at.at inside c.loop-at.invariant
     c.count_first-counted.result.verdict rest (tail_is c.loop-at.at bytes) c.count_first-counted.ensures e in
     omega (arith, ends c.in_default.is, c.span_of-at.ensures)
 
@@ -43,7 +44,8 @@ loop-at-smaller c =
     let bytes : List ℕ = c.args.records.now in
     let rest : List ℕ = take (length bytes - c.loop-at.at) (drop c.loop-at.at bytes) in
     let inside : c.loop-at.at < length bytes = omega (arith, c.loop-at-test) in
-    let ends : c.count_first-counted.result.verdict ≡ Accepted → c.loop-at.at + span_of rest ≤ length bytes = λ e. counting_within bytes c.args.room c.loop-at.t c.count_first-counted.result.tally c.loop-at.place c.loop-at.at inside c.loop-at.invariant
+    let ends : c.count_first-counted.result.verdict ≡ Accepted → c.loop-at.at + span_of rest ≤ length bytes =
+    λ e. counting_within bytes c.args.room c.loop-at.t c.count_first-counted.result.tally c.loop-at.place c.loop-at.at inside c.loop-at.invariant
     c.count_first-counted.result.verdict rest (tail_is c.loop-at.at bytes) c.count_first-counted.ensures e in
     omega (arith, ends c.in_default.is, c.span_of-at.ensures, inside)
 

@@ -16,22 +16,26 @@ returns-then-f c = puts_as (figure_whole _ (omega (arith, c.if-f.true))) c.put_d
 
 pub put_decimal-point-requires : goal.put_decimal-point-requires
 put_decimal-point-requires c =
-    let tenth_text : decimal (c.args.f / 1000000000) ++ ((46 ∷ []) ++ (c.digit_of-tenth.result ∷ [])) ≡ figure_text c.args.f = figure_tenth _ _ (omega (arith, c.if-f.false)) c.digit_of-tenth.ensures in
+    let tenth_text : decimal (c.args.f / 1000000000) ++ ((46 ∷ []) ++ (c.digit_of-tenth.result ∷ [])) ≡ figure_text c.args.f =
+    figure_tenth _ _ (omega (arith, c.if-f.false)) c.digit_of-tenth.ensures in
     omega (arith, simp length-append at (room_as tenth_text c.requires).within)
 
 pub put_byte-next-requires : goal.put_byte-next-requires
 put_byte-next-requires c =
-    let tenth_text : decimal (c.args.f / 1000000000) ++ ((46 ∷ []) ++ (c.digit_of-tenth.result ∷ [])) ≡ figure_text c.args.f = figure_tenth _ _ (omega (arith, c.if-f.false)) c.digit_of-tenth.ensures in
+    let tenth_text : decimal (c.args.f / 1000000000) ++ ((46 ∷ []) ++ (c.digit_of-tenth.result ∷ [])) ≡ figure_text c.args.f =
+    figure_tenth _ _ (omega (arith, c.if-f.false)) c.digit_of-tenth.ensures in
     omega (arith, simp length-append at (room_as tenth_text c.requires).within)
 
 pub put_byte-requires : goal.put_byte-requires
 put_byte-requires c =
-    let tenth_text : decimal (c.args.f / 1000000000) ++ ((46 ∷ []) ++ (c.digit_of-tenth.result ∷ [])) ≡ figure_text c.args.f = figure_tenth _ _ (omega (arith, c.if-f.false)) c.digit_of-tenth.ensures in
+    let tenth_text : decimal (c.args.f / 1000000000) ++ ((46 ∷ []) ++ (c.digit_of-tenth.result ∷ [])) ≡ figure_text c.args.f =
+    figure_tenth _ _ (omega (arith, c.if-f.false)) c.digit_of-tenth.ensures in
     omega (arith, simp length-append at (room_as tenth_text c.requires).within)
 
 pub returns : goal.returns
 returns c =
-    let tenth_text : decimal (c.args.f / 1000000000) ++ ((46 ∷ []) ++ (c.digit_of-tenth.result ∷ [])) ≡ figure_text c.args.f = figure_tenth _ _ (omega (arith, c.if-f.false)) c.digit_of-tenth.ensures in
+    let tenth_text : decimal (c.args.f / 1000000000) ++ ((46 ∷ []) ++ (c.digit_of-tenth.result ∷ [])) ≡ figure_text c.args.f =
+    figure_tenth _ _ (omega (arith, c.if-f.false)) c.digit_of-tenth.ensures in
     let e = tenth_text in
     let h = room_as e c.requires in
     let h1 = room_then _ h c.put_decimal-point.ensures in
