@@ -1,5 +1,5 @@
 -- Standard input, a part at a time. What a read of it brings, no contract says; what is said of its answer is, and what a read of an input of known bytes brings.
-use Rattle.std.specs.Prelude.{ℕ, ◌+◌, ◌-◌, ◌^◌, ◌<◌, ◌≤◌, min, ◌≡◌, Bool, false, cond, Option, None, Some, List, [], eqb, ℤ, pos, negsuc, length, take, drop}
+use Rattle.std.specs.Prelude.{ℕ, ◌+◌, ◌-◌, ◌^◌, ◌<◌, ◌≤◌, min, ◌≡◌, Bool, false, cond, Option, None, Some, List, [], eqb, ℤ, pos, negsuc, length, take}
 use Rattle.std.specs.Io.KnownBytes.{Consumes, Keeps, IsAtEnd}
 use Rattle.streams.specs.declared.input.Part.{Part}
 use Rattle.streams.specs.declared.input.Part.TheVariants.{Full, Short, End, Failed}
@@ -53,10 +53,6 @@ progress_of done room = cond (eqb done room) (Done Full) (More done)
 abbrev pub after_read : ℕ → ℕ → ℤ → Progress
 after_read done room (negsuc n) = Done Failed
 after_read done room (pos n) = cond (eqb n 0) (Done (end_behind done)) (progress_of (done + n) room)
-
--- one read more, of a part that goes on
-abbrev pub GoesOn : Option (List ℕ) → Option (List ℕ) → ℕ → List ℕ → List ℕ → Progress → Type 0
-GoesOn before after done given part p = (got : ℤ) × Behind done given part got × Took before after (drop done part) got × (p ≡ after_read done (length part) got)
 
 -- how many of the bytes asked for a part holds, from the first on: an end or a failure gives none
 abbrev pub bytes_in : ℕ → Part → ℕ

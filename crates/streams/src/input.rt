@@ -1,7 +1,8 @@
 // Standard input, a part at a time.
 ghost use Rattle.std.specs.Prelude.{◌≡◌, ◌-◌, ◌≤◌, ◌<◌, length, take, drop};
 ghost use Rattle.std.specs.IoError.{raw_os_error};
-ghost use Rattle.streams.specs.Input.{Moved, Took, error_number, most_parts, was_interrupted, Behind, progress_of, after_read, GoesOn, Filled, PartTook, Reads, bytes_in};
+ghost use Rattle.streams.specs.Input.{Moved, Took, error_number, most_parts, was_interrupted, Behind, progress_of, after_read, Filled, PartTook, Reads, bytes_in};
+ghost use Rattle.streams.specs.Steps.{GoesOn};
 
 use std::io::{Error, Read, Stdin};
 

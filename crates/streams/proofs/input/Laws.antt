@@ -5,7 +5,8 @@ use Rattle.std.proofs.KnownBytes.{Consumes-trans, Consumes-kept}
 use Rattle.std.specs.Prelude.{Option, eqb}
 use Rattle.std.specs.Io.KnownBytes.{Consumes, IsAtEnd}
 use borrow.Author.Tests.{eqb-true, eqb-false}
-use Rattle.streams.specs.Input.{Holds, Moved, Took, GoesOn, PartTook, end_behind, progress_of, after_read}
+use Rattle.streams.specs.Input.{Holds, Moved, Took, PartTook, end_behind, progress_of, after_read}
+use Rattle.streams.specs.Steps.{GoesOn}
 use Rattle.streams.specs.declared.input.Progress.{Progress}
 use Rattle.streams.specs.declared.input.Progress.TheVariants.{More, Done}
 use Rattle.streams.specs.declared.input.Part.TheVariants.{Full, Short, End}
