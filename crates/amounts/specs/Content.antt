@@ -1,9 +1,8 @@
 -- Counted content (document 01, "Amounts"; document 000, 1.1.3).
 use Rattle.std.specs.Prelude.{ℕ, Bool, cond, [], ◌∷◌, eqb, leb}
 use Rattle.amounts.specs.Class.{is_class}
-use Rattle.amounts.specs.Decline.{Answer, taken, declined, check, checked, layout}
-use Rattle.amounts.specs.declared.content.Counted.{Counted}
-use Rattle.amounts.specs.declared.content.Counted.TheVariants.{Content, Declined}
+use Rattle.amounts.specs.Decline.{Answer, check, checked}
+use Rattle.amounts.specs.declared.decline.Decline.TheVariants.{Layout}
 
 -- a content, and a rate, is in parts per million
 abbrev pub is_ppm : ℕ → Bool
@@ -19,9 +18,4 @@ counts class ppm = cond (leb (counted_from class) ppm) ppm 0
 
 unfoldable pub counted_of : ℕ → ℕ → Answer ℕ
 unfolding checked
-counted_of class ppm = checked (check (is_class class) layout ∷ check (is_ppm ppm) layout ∷ []) (counts class ppm)
-
--- what each case of the code's answer stands for
-abbrev pub answer : Counted → Answer ℕ
-answer (Content ppm) = taken ppm
-answer (Declined d) = declined d.number
+counted_of class ppm = checked (check (is_class class) Layout ∷ check (is_ppm ppm) Layout ∷ []) (counts class ppm)

@@ -1,10 +1,9 @@
 -- The treatment split (document 01, "Treatment and report").
 use Rattle.std.specs.Prelude.{ℕ, ◌-◌, ◌*◌, ◌/◌, ◌^◌, [], ◌∷◌}
 use Rattle.amounts.specs.Content.{is_ppm}
-use Rattle.amounts.specs.Decline.{Answer, taken, declined, check, checked, layout}
+use Rattle.amounts.specs.Decline.{Answer, check, checked}
+use Rattle.amounts.specs.declared.decline.Decline.TheVariants.{Layout}
 use Rattle.amounts.specs.declared.treatment.Parts.{Parts}
-use Rattle.amounts.specs.declared.treatment.Split.{Split}
-use Rattle.amounts.specs.declared.treatment.Split.TheVariants.{Into, Declined}
 
 -- "a × r / 10^6 rounded down"
 abbrev pub share_of : ℕ → ℕ → ℕ
@@ -19,9 +18,4 @@ parts_of a r d =
 
 unfoldable pub split_of : ℕ → ℕ → ℕ → Answer Parts
 unfolding checked
-split_of a r d = checked (check (is_ppm r) layout ∷ check (is_ppm d) layout ∷ []) (parts_of a r d)
-
--- what each case of the code's answer stands for
-abbrev pub answer : Split → Answer Parts
-answer (Into parts) = taken parts
-answer (Declined d) = declined d.number
+split_of a r d = checked (check (is_ppm r) Layout ∷ check (is_ppm d) Layout ∷ []) (parts_of a r d)

@@ -1,15 +1,9 @@
 // The content of a substance in a material that is counted.
 ghost use Rattle.std.specs.Prelude.{◌≡◌};
-ghost use Rattle.amounts.specs.Content.{counted_from, counted_of, answer};
+ghost use Rattle.amounts.specs.Content.{counted_from, counted_of};
 
-use crate::decline::Decline;
-use crate::{class, decline};
-
-#[derive(Clone, Copy)]
-pub enum Counted {
-    Content(u32),
-    Declined(Decline),
-}
+use crate::class;
+use crate::decline::{Decline, check};
 
 fn counted_from(class: u8) -> u32
     ensures { result ≡ counted_from class }
@@ -18,17 +12,11 @@ fn counted_from(class: u8) -> u32
 }
 
 // The content in ppm that counts for a substance of the class.
-pub fn counted_content(class: u8, ppm: u32) -> Counted
-    ensures { answer result ≡ counted_of class ppm }
+#[tactic(auto, unfolding(crate::specs::Content::counted_of, crate::specs::Decline::checked))]
+pub fn counted_content(class: u8, ppm: u32) -> Result<u32, Decline>
+    ensures { result ≡ counted_of class ppm }
 {
-    if !class::is_class(class) {
-        return Counted::Declined(decline::LAYOUT);
-    }
-    if ppm > 1_000_000 {
-        return Counted::Declined(decline::LAYOUT);
-    }
-    if counted_from(class) <= ppm {
-        return Counted::Content(ppm);
-    }
-    Counted::Content(0)
+    check(class::is_class(class), Decline::Layout)?;
+    check(ppm <= 1_000_000, Decline::Layout)?;
+    Ok(if counted_from(class) <= ppm { ppm } else { 0 })
 }

@@ -9,52 +9,38 @@ pub struct Case {
     pub step: u64,
 }
 
-// A case as it stands in a line: its number and its step.
-#[derive(Clone, Copy)]
-struct Numbered(u8, u64);
+impl Case {
+    fn new(number: u8, step: u64) -> Case
+        ensures { result ≡ record { number = number; step = step } }
+    {
+        Case { number, step }
+    }
+}
 
 // The case of an amount in micrograms: that of the last bound which it reaches.
+#[tactic(auto, unfolding(crate::specs::Filed::case_of, crate::specs::Filed::case_in, crate::specs::Filed::rows))]
 pub fn case_of(amount: u64) -> Case
     ensures { result ≡ case_of amount }
 {
-    let mut case = Numbered(0, 100_000_000);
-    if amount >= 10_000_000_000 {
-        case = Numbered(1, 1_000_000_000);
-    }
-    if amount >= 100_000_000_000 {
-        case = Numbered(2, 10_000_000_000);
-    }
-    if amount >= 1_000_000_000_000 {
-        case = Numbered(3, 100_000_000_000);
-    }
-    if amount >= 10_000_000_000_000 {
-        case = Numbered(4, 1_000_000_000_000);
-    }
-    if amount >= 100_000_000_000_000 {
-        case = Numbered(5, 10_000_000_000_000);
-    }
-    if amount >= 1_000_000_000_000_000 {
-        case = Numbered(6, 100_000_000_000_000);
-    }
-    if amount >= 10_000_000_000_000_000 {
-        case = Numbered(7, 1_000_000_000_000_000);
-    }
-    if amount >= 100_000_000_000_000_000 {
-        case = Numbered(8, 10_000_000_000_000_000);
-    }
-    if amount >= 1_000_000_000_000_000_000 {
-        case = Numbered(9, 100_000_000_000_000_000);
-    }
-    if amount >= 10_000_000_000_000_000_000 {
-        case = Numbered(10, 1_000_000_000_000_000_000);
-    }
-    Case {
-        number: case.0,
-        step: case.1,
+    match amount {
+        ..10_000_000_000 => Case::new(0, 100_000_000),
+        10_000_000_000..100_000_000_000 => Case::new(1, 1_000_000_000),
+        100_000_000_000..1_000_000_000_000 => Case::new(2, 10_000_000_000),
+        1_000_000_000_000..10_000_000_000_000 => Case::new(3, 100_000_000_000),
+        10_000_000_000_000..100_000_000_000_000 => Case::new(4, 1_000_000_000_000),
+        100_000_000_000_000..1_000_000_000_000_000 => Case::new(5, 10_000_000_000_000),
+        1_000_000_000_000_000..10_000_000_000_000_000 => Case::new(6, 100_000_000_000_000),
+        10_000_000_000_000_000..100_000_000_000_000_000 => Case::new(7, 1_000_000_000_000_000),
+        100_000_000_000_000_000..1_000_000_000_000_000_000 => Case::new(8, 10_000_000_000_000_000),
+        1_000_000_000_000_000_000..10_000_000_000_000_000_000 => {
+            Case::new(9, 100_000_000_000_000_000)
+        }
+        10_000_000_000_000_000_000.. => Case::new(10, 1_000_000_000_000_000_000),
     }
 }
 
 // The step to which an amount in micrograms is rounded.
+#[tactic(auto, unfolding(crate::specs::Filed::step_of))]
 pub fn step_of(amount: u64) -> u64
     ensures { result ≡ step_of amount }
 {

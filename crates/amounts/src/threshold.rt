@@ -1,16 +1,9 @@
 // Whether a substance is due to be filed.
 ghost use Rattle.std.specs.Prelude.{◌≡◌};
-ghost use Rattle.amounts.specs.Threshold.{due_from, due_of, answer};
+ghost use Rattle.amounts.specs.Threshold.{due_from, due_of};
 
-use crate::decline::Decline;
-use crate::{class, decline};
-
-#[derive(Clone, Copy)]
-pub enum Due {
-    Yes,
-    No,
-    Declined(Decline),
-}
+use crate::class;
+use crate::decline::{Decline, check};
 
 fn due_from(class: u8) -> u64
     ensures { result ≡ due_from class }
@@ -23,14 +16,10 @@ fn due_from(class: u8) -> u64
 }
 
 // Whether a substance of the class is due at an amount handled, in micrograms.
-pub fn is_due(class: u8, handled: u64) -> Due
-    ensures { answer result ≡ due_of class handled }
+#[tactic(auto, unfolding(crate::specs::Threshold::due_of, crate::specs::Decline::checked))]
+pub fn is_due(class: u8, handled: u64) -> Result<bool, Decline>
+    ensures { result ≡ due_of class handled }
 {
-    if !class::is_class(class) {
-        return Due::Declined(decline::LAYOUT);
-    }
-    if due_from(class) <= handled {
-        return Due::Yes;
-    }
-    Due::No
+    check(class::is_class(class), Decline::Layout)?;
+    Ok(due_from(class) <= handled)
 }

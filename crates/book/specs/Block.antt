@@ -1,6 +1,6 @@
 -- A journal block on a book (document 01, "Journal blocks" and "Why a call is declined, in checking order").
-use Rattle.std.specs.Prelude.{ℕ, ◌+◌, List}
-use Rattle.amounts.specs.Decline.{Answer, taken, on_taken}
+use Rattle.std.specs.Prelude.{ℕ, ◌+◌, List, Ok}
+use Rattle.amounts.specs.Decline.{Answer, on_taken}
 use Rattle.layout.specs.Frame.{count_of, body_of, held_at}
 use Rattle.layout.specs.declared.holds.Holds.{Holds}
 use Rattle.layout.specs.declared.holds.Holds.TheVariants.{SetUp, Posts}
@@ -10,8 +10,7 @@ use Rattle.plant.specs.Setup.{set_up_on}
 use Rattle.plant.specs.Stage.{described_on}
 use Rattle.plant.specs.declared.setup.Setup.{Setup}
 use Rattle.book.specs.Posts.{posts_on}
-use Rattle.book.specs.Site.{book_with}
-use Rattle.book.specs.declared.site.Book.{Book}
+use Rattle.book.specs.Site.{Book, book_with}
 use Rattle.book.specs.declared.site.Year.{Year}
 
 -- 4 on, of a part of the set-up: the substances and materials, or a stage
@@ -21,10 +20,10 @@ setup_by u Stage count body = described_on u count body
 
 -- a block more on a book: with another set-up, or with another year
 abbrev pub on_setup : Book → Answer Setup → Answer Book
-on_setup b a = on_taken a (λ u. taken (book_with u b.year (b.blocks + 1)))
+on_setup b a = on_taken a (λ u. Ok (book_with u b.year (b.blocks + 1)))
 
 abbrev pub on_year : Book → Answer Year → Answer Book
-on_year b a = on_taken a (λ y. taken (book_with b.setup y (b.blocks + 1)))
+on_year b a = on_taken a (λ y. Ok (book_with b.setup y (b.blocks + 1)))
 
 -- 4 on, by what the block holds
 abbrev pub by_holds : Book → List ℕ → Holds → Answer Book

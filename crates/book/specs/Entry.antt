@@ -1,7 +1,7 @@
 -- What a move does to a year (document 01, "Posts", "Treatment and report", and decline 11; document 02, (b)), by its cases.
 use Rattle.std.specs.Prelude.{ℕ, ◌+◌, ◌-◌, Bool, true, cond, List, eqb, leb, get_or, set}
 use Rattle.plant.specs.declared.setup.Setup.{Setup}
-use Rattle.kinds.specs.Account.{held}
+use Rattle.kinds.specs.declared.account.Account.TheVariants.{Held}
 use Rattle.post.specs.Moves.{closes}
 use Rattle.post.specs.declared.moves.Move.{Move}
 use Rattle.post.specs.declared.moves.Move.TheVariants.{Received, Issued, Brought, Gone, Close}
@@ -13,7 +13,7 @@ abbrev pub is_there : List ℕ → List ℕ → Move → Bool
 is_there store sums (Received m g) = true
 is_there store sums (Issued m stage g) = leb g (get_or store m 0)
 is_there store sums (Brought account stage s n) = true
-is_there store sums (Gone account stage s n) = leb n (cell sums held stage s)
+is_there store sums (Gone account stage s n) = leb n (cell sums Held stage s)
 is_there store sums Close = true
 
 -- "The store of that material grows"; "The store falls"
@@ -28,9 +28,9 @@ store_after store Close = store
 -- name", "by the loss, which goes to air untreated"; found "goes to off site in the same step"; "Each holding moves to gas or waste water, by that pair's side"
 abbrev pub sums_after : List ℕ → List Bool → List ℕ → Move → List ℕ
 sums_after counted to_water sums (Received m g) = sums
-sums_after counted to_water sums (Issued m stage g) = raised (cell_of held stage) (brings counted m g) sums 8
+sums_after counted to_water sums (Issued m stage g) = raised (cell_of Held stage) (brings counted m g) sums 8
 sums_after counted to_water sums (Brought account stage s n) = added sums (cell_of account stage s) n
-sums_after counted to_water sums (Gone account stage s n) = moved sums (cell_of held stage s) (cell_of account stage s) n
+sums_after counted to_water sums (Gone account stage s n) = moved sums (cell_of Held stage s) (cell_of account stage s) n
 sums_after counted to_water sums Close = settled sums to_water 64
 
 -- "Handled is issued plus formed", and found "counts as handled"

@@ -1,22 +1,24 @@
 -- The ledger: one sum in micrograms for each account, stage and substance.
 use Rattle.std.specs.Prelude.{ℕ, zero, suc, ◌+◌, ◌-◌, ◌*◌, Bool, false, List, get_or, set}
 use Rattle.encoding.specs.Each.{sum_to, put_to}
-use Rattle.kinds.specs.Account.{held, closes_to}
+use Rattle.kinds.specs.Account.{place, closes_to}
+use Rattle.kinds.specs.declared.account.Account.{Account}
+use Rattle.kinds.specs.declared.account.Account.TheVariants.{Held}
 
--- the place of a sum: by account and pair, and by account, stage and substance
+-- the place of a sum: by its account's place and its pair, and by account, stage and substance
 abbrev pub at : ℕ → ℕ → ℕ
 at account pair = account * 64 + pair
 
-abbrev pub cell_of : ℕ → ℕ → ℕ → ℕ
-cell_of account stage substance = at account (stage * 8 + substance)
+abbrev pub cell_of : Account → ℕ → ℕ → ℕ
+cell_of account stage substance = at (place account) (stage * 8 + substance)
 
-abbrev pub cell : List ℕ → ℕ → ℕ → ℕ → ℕ
+abbrev pub cell : List ℕ → Account → ℕ → ℕ → ℕ
 cell sums account stage substance = get_or sums (cell_of account stage substance) 0
 
--- what all accounts and stages hold of a substance
+-- what all nine accounts and all stages hold of a substance
 unfoldable pub total : List ℕ → ℕ → ℕ
 unfolding sum_to
-total sums s = sum_to 8 (λ stage. sum_to 9 (λ account. cell sums account stage s))
+total sums s = sum_to 8 (λ stage. sum_to 9 (λ account. get_or sums (at account (stage * 8 + s)) 0))
 
 -- an amount comes to a sum
 abbrev pub added : List ℕ → ℕ → ℕ → List ℕ
@@ -40,4 +42,4 @@ unfolding closes_to
 settled sums to_water zero = sums
 settled sums to_water (suc k) =
     let before = settled sums to_water k in
-    moved before (at held k) (at (closes_to (get_or to_water k false)) k) (get_or before (at held k) 0)
+    moved before (at (place Held) k) (at (place (closes_to (get_or to_water k false))) k) (get_or before (at (place Held) k) 0)

@@ -1,6 +1,5 @@
 pub mod Ledger
 pub mod Site
-pub mod Answer
 pub mod Entry
 pub mod Posts
 pub mod Block

@@ -5,8 +5,13 @@ use Rattle.layout.specs.Outline.{may_post}
 use Rattle.plant.specs.Setup.{fresh_setup, SoundSetup}
 use Rattle.plant.specs.declared.setup.Setup.{Setup}
 use Rattle.book.specs.Ledger.{brings, total}
-use Rattle.book.specs.declared.site.Book.{Book}
 use Rattle.book.specs.declared.site.Year.{Year}
+
+-- what a book is: its set-up, its year, which posts change, and its count of blocks
+pub record Book : Type 0 where
+  pub setup : Setup
+  pub year : Year
+  pub blocks : ℕ
 
 abbrev pub fresh_year : Year
 fresh_year = record { store = replicate 12 0; sums = replicate 576 0; handled = replicate 8 0; posts = 0; closed = false }

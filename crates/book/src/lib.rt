@@ -1,7 +1,6 @@
 // The book of one site for one year: its set-up, its posts, its blocks and whole journals.
 #![tactic(auto)]
 
-pub mod answer;
 pub mod block;
 pub mod blocks;
 pub mod entry;

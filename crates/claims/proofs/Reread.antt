@@ -9,7 +9,10 @@ use borrow.Author.Tests.{eqb-true, eqb-false, ne_eqb}
 use lib.Dec.{eqb}
 use lib.ListN.{length, length-append}
 use lib.Seq.{take_at, drop_at}
-use Rattle.amounts.specs.Decline.{Answer, taken, Check, check, checked, is_taken}
+use Rattle.std.proofs.lemmas.List.{nil_from_length}
+use Rattle.std.specs.List.{AllByRecursion}
+use Rattle.std.specs.Prelude.{Ok}
+use Rattle.amounts.specs.Decline.{Answer, Check, check, checked, is_taken}
 use Rattle.amounts.proofs.decline.Laws.{was_taken}
 use Rattle.layout.specs.Frame.{block_kind, count_of, body_of, frame_checks, block_of}
 use Rattle.layout.specs.Holds.{holds_of}
@@ -25,9 +28,8 @@ use Rattle.layout.proofs.frame.Laws.{framed}
 use Rattle.layout.proofs.frame.Made.{held_made}
 use Rattle.book.specs.Block.{block_on}
 use Rattle.book.specs.Posts.{post_on, taken_to, single_on}
-use Rattle.book.specs.Site.{fresh_book, fresh_year, book_with}
-use Rattle.book.specs.Blocks.{parts_to, parts_in, read, onward, read_all}
-use Rattle.book.specs.declared.site.Book.{Book}
+use Rattle.book.specs.Site.{Book, fresh_book, fresh_year, book_with}
+use Rattle.book.specs.Blocks.{parts_to, parts_in, read, read_all}
 use Rattle.book.specs.declared.site.Year.{Year}
 use Rattle.book.proofs.block.Laws.{Done, set_up, described, block_done}
 use Rattle.book.proofs.block.Laws as blocks
@@ -55,51 +57,43 @@ use Rattle.claims.proofs.Filled.{run_admits, taken_long, one_more, block_of_post
 
 -- each is a part of the set-up
 abbrev Part : ℕ → Type 0
-Part kind = (part : SetupPart) × (holds_of kind ≡ taken (SetUp part))
+Part kind = (part : SetupPart) × (holds_of kind ≡ Ok (SetUp part))
 
-abbrev Kinds : List calls.Call → Type 0
-Kinds [] = Unit
-Kinds (set_up kind count body ∷ cs) = Part kind × Kinds cs
-Kinds (calls.post s ∷ cs) = Kinds cs
-Kinds (end ∷ cs) = Kinds cs
+abbrev SetsUp : calls.Call → Type 0
+SetsUp (set_up kind count body) = Part kind
+SetsUp (calls.post s) = Unit
+SetsUp end = Unit
 
--- a set-up that the writer takes has such a kind
-writer_kind : (p : Page) (kind count : ℕ) (body : List ℕ) → is_taken (set_up_on p kind count body) ≡ true → Part kind
-writer_kind p kind count body e =
+sets_up : (p : Page) (call : calls.Call) → is_taken (calls.answer_to p call) ≡ true → SetsUp call
+sets_up p (set_up kind count body) e =
     let q = has_value (set_up_on p kind count body) e in
     let a = set_up_taken p q.0 kind count body q.1 in
     (a.0, a.1.holds)
+sets_up p (calls.post s) e = tt
+sets_up p end e = tt
 
 -- a call that is kept, or not
-keep_set_up : (t : Bool) (kind count : ℕ) (body : List ℕ) (cs : List calls.Call) → (t ≡ true → Part kind) → Kinds cs → Kinds (calls.keep t (set_up kind count body) cs)
-keep_set_up true kind count body cs k rest = (k refl, rest)
-keep_set_up false kind count body cs k rest = rest
-
-keep_post : (t : Bool) (s : List ℕ) (cs : List calls.Call) → Kinds cs → Kinds (calls.keep t (calls.post s) cs)
-keep_post true s cs rest = rest
-keep_post false s cs rest = rest
+kept : (t : Bool) (call : calls.Call) (cs : List calls.Call) → (t ≡ true → SetsUp call) → AllByRecursion SetsUp cs → AllByRecursion SetsUp (calls.keep t call cs)
+kept true call cs h rest = (h refl, rest)
+kept false call cs h rest = rest
 
 -- of all that a writer accepts, from any page on
-kinds_accepted : (p : Page) (list : List calls.Call) → Kinds (accepted p list)
+kinds_accepted : (p : Page) (list : List calls.Call) → AllByRecursion SetsUp (accepted p list)
 unfolding accepted
 kinds_accepted p [] = tt
-kinds_accepted p (set_up kind count body ∷ list) =
-    keep_set_up (is_taken (set_up_on p kind count body)) kind count body _ (writer_kind p kind count body) (kinds_accepted (calls.after p (set_up kind count body)) list)
-kinds_accepted p (calls.post s ∷ list) = keep_post (is_taken (calls.answer_to p (calls.post s))) s _ (kinds_accepted (calls.after p (calls.post s)) list)
-kinds_accepted p (end ∷ list) = kinds_accepted (calls.after p end) list
+kinds_accepted p (call ∷ list) = kept (is_taken (calls.answer_to p call)) call _ (sets_up p call) (kinds_accepted (calls.after p call) list)
 
 -- ---- 1 to 3 of blocks in turn, the first at a place
 
 abbrev Frames : ℕ → List (List ℕ) → Type 0
 Frames place [] = Unit
-Frames place (s ∷ rest) = (checked (frame_checks place s) s ≡ taken s) × Frames (suc place) rest
+Frames place (s ∷ rest) = (checked (frame_checks place s) s ≡ Ok s) × Frames (suc place) rest
 
 -- what a table answers where it takes
-takes : {A : Type 0} (rows : List Check) (a : A) → is_taken (checked rows a) ≡ true → checked rows a ≡ taken a
+takes : {A : Type 0} (rows : List Check) (a : A) → is_taken (checked rows a) ≡ true → checked rows a ≡ Ok a
 unfolding checked
 takes [] a e = refl
-takes (check true n ∷ rows) a e = takes rows a e
-takes (check false n ∷ rows) a e = absurd (true≢false (sym e))
+takes (check t n ∷ rows) a e = grind (arith, takes rows a)
 
 -- what passes 1 to 3 and more passes 1 to 3
 frames : (place : ℕ) (o : Outline) (list : List (List ℕ)) → written.AllPass place o list → Frames place list
@@ -149,15 +143,12 @@ unfolding read_all
 reads_none u y m place k = let e : m ≡ m + 0 = omega arith in ap (λ (n : ℕ). read (book_with u y n)) e
 
 -- a block that is taken, and then the rest
-reads_next : (u v : Setup) (y z : Year) (m place : ℕ) (s : List ℕ) (rest : List (List ℕ)) (b : Book) → block_on (book_with u y m) s ≡ taken (book_with v z (m + 1))
+reads_next : (u v : Setup) (y z : Year) (m place : ℕ) (s : List ℕ) (rest : List (List ℕ)) (b : Book) → block_on (book_with u y m) s ≡ Ok (book_with v z (m + 1))
     → Reads v z (suc m) (suc place) rest b → Reads u y m place (s ∷ rest) b
 unfolding read_all
 reads_next u v y z m place s rest b e h =
     let more : suc m + length rest ≡ m + suc (length rest) = omega arith in
-    ap (λ (x : Answer Book). onward x place (λ c. read_all c (suc place) rest)) e
-    ∙ ap (λ (n : ℕ). read_all (book_with v z n) (suc place) rest) (add-one m)
-    ∙ h
-    ∙ ap (λ (n : ℕ). read (book_with b.setup b.year n)) more
+    rw (e, add-one m, h, more)
 
 -- ---- the reading book and the one that takes the calls singly
 
@@ -166,7 +157,7 @@ reads_next u v y z m place s rest b e h =
 record Joint (u : Setup) (y z : Year) (waiting : List (List ℕ)) (m k : ℕ) : Type 0 where
   pub long : length (joined waiting) ≡ length waiting * 48
   pub few : length waiting ≤ 9
-  pub run : taken_to u y (post_in (joined waiting)) (length waiting) ≡ taken z
+  pub run : taken_to u y (post_in (joined waiting)) (length waiting) ≡ Ok z
   pub before : may_post u.outline ≡ false → (length waiting ≡ 0) × (m ≡ k)
 
 -- nothing waits
@@ -174,18 +165,16 @@ joint_none : (u : Setup) (y : Year) (m k : ℕ) → (may_post u.outline ≡ fals
 unfolding joined taken_to
 joint_none u y m k h = record { long = omega arith; few = omega arith; run = refl; before = λ e. (refl, h e) }
 
--- where none waits, the list is empty and both books have the same year
-none_waits : (l : List (List ℕ)) → length l ≡ 0 → l ≡ []
-none_waits [] e = refl
-none_waits (x ∷ l) e = absurd (omega arith)
-
+-- where none waits, both books have the same year
 same_year : (u : Setup) (y z : Year) (waiting : List (List ℕ)) (m k : ℕ) → Joint u y z waiting m k → length waiting ≡ 0 → z ≡ y
+unfolding taken_to
 same_year u y z waiting m k j e =
-    let same : taken y ≡ taken z = sym (ap (taken_to u y (post_in (joined waiting))) e ∙ none_yet u y (post_in (joined waiting))) ∙ j.run in cc
+    let run = rw e at j.run in
+    cc
 
 -- the block of posts that wait is read, and nothing waits
 reads_waiting : (u : Setup) (y z : Year) (waiting : List (List ℕ)) (m place : ℕ) (xs : List Sheet) (b : Book)
-    → length (joined waiting) ≡ length waiting * 48 → 1 ≤ length waiting → length waiting ≤ 10 → taken_to u y (post_in (joined waiting)) (length waiting) ≡ taken z
+    → length (joined waiting) ≡ length waiting * 48 → 1 ≤ length waiting → length waiting ≤ 10 → taken_to u y (post_in (joined waiting)) (length waiting) ≡ Ok z
     → (Frames (suc m) (framed_from (suc m) xs) → Reads u z (suc m) (suc place) (framed_from (suc m) xs) b)
     → Frames m (framed_from m (of_posts waiting ∷ xs)) → Reads u y m place (framed_from m (of_posts waiting ∷ xs)) b
 unfolding framed_from
@@ -204,8 +193,7 @@ reads_end u y z waiting m k place b cs j rest h = go (eqb (length waiting) 0) re
     go : (t : Bool) → eqb (length waiting) 0 ≡ t → Frames m (framed_from m (cond t (sheets [] cs) (of_posts waiting ∷ sheets [] cs)))
         → Reads u y m place (framed_from m (cond t (sheets [] cs) (of_posts waiting ∷ sheets [] cs))) b
     go true e f =
-        subst (λ (x : Year). Reads u x m place (framed_from m (sheets [] cs)) b) (same_year u y z waiting m k j (eqb-true (length waiting) 0 e))
-        (rest m place (joint_none u z m k (λ t. (j.before t).1)) f)
+        rw (← same_year u y z waiting m k j (eqb-true (length waiting) 0 e)) (rest m place (joint_none u z m k (λ t. (j.before t).1)) f)
     go false e f =
         let some : 1 ≤ length waiting = omega (arith, eqb-false (length waiting) 0 e) in
         let turn = (run_admits u y z (post_in (joined waiting)) (length waiting) some j.run).0 in
@@ -214,7 +202,7 @@ reads_end u y z waiting m k place b cs j rest h = go (eqb (length waiting) 0) re
         (rest (suc m) (suc place) (joint_none u z (suc m) k (λ t. absurd (true≢false (sym turn ∙ t))))) f
 
 -- a post: it waits, or is the tenth and is written with those that wait
-reads_post : (u : Setup) (y z x : Year) (waiting : List (List ℕ)) (m k place : ℕ) (b : Book) (s : List ℕ) (cs : List calls.Call) → Joint u y z waiting m k → post_on u z s ≡ taken x
+reads_post : (u : Setup) (y z x : Year) (waiting : List (List ℕ)) (m k place : ℕ) (b : Book) (s : List ℕ) (cs : List calls.Call) → Joint u y z waiting m k → post_on u z s ≡ Ok x
     → ((w : Year) (l : List (List ℕ)) (n p : ℕ) → Joint u w x l n k → Frames n (framed_from n (sheets l cs)) → Reads u w n p (framed_from n (sheets l cs)) b)
     → Frames m (framed_from m (sheets waiting (calls.post s ∷ cs))) → Reads u y m place (framed_from m (sheets waiting (calls.post s ∷ cs))) b
 unfolding sheets
@@ -229,11 +217,8 @@ reads_post u y z x waiting m k place b s cs j e rest h = go (eqb (length waiting
     long : length (joined more) ≡ length more * 48
     long = omega (arith, ap (λ (l : List ℕ). length l) (joined_last waiting s), length-append (joined waiting) s, count, j.long, taken_long u z x s e)
 
-    run : taken_to u y (post_in (joined more)) (length more) ≡ taken x
-    run =
-        ap (λ (l : List ℕ). taken_to u y (post_in l) (length more)) (joined_last waiting s)
-        ∙ ap (taken_to u y (post_in (joined waiting ++ s))) count
-        ∙ one_more u y z x (joined waiting) s (length waiting) j.long j.run e
+    run : taken_to u y (post_in (joined more)) (length more) ≡ Ok x
+    run = rw (joined_last waiting s, count) (one_more u y z x (joined waiting) s (length waiting) j.long j.run e)
 
     turn : may_post u.outline ≡ false → ⊥
     turn t = true≢false (sym (posts.posted u z x s e).admitted.in_turn ∙ t)
@@ -257,14 +242,14 @@ record Set (u : Setup) (y : Year) (k : ℕ) (c : Book) : Type 0 where
   pub book : c ≡ book_with setup y (k + 1)
   pub early : may_post u.outline ≡ false
 
-set_done : (u : Setup) (y : Year) (k : ℕ) (s : List ℕ) (c : Book) → (holds_of (block_kind s) ≡ taken Posts → ⊥) → Done (book_with u y k) s c → Set u y k c
+set_done : (u : Setup) (y : Year) (k : ℕ) (s : List ℕ) (c : Book) → (holds_of (block_kind s) ≡ Ok Posts → ⊥) → Done (book_with u y k) s c → Set u y k c
 set_done u y k s c other (set_up kind a is) = record { setup = setup_of (count_of s) (body_of s); book = is; early = first.not_yet u.outline a.none }
 set_done u y k s c other (described kind a is) = record { setup = with_stage u (count_of s) (body_of s); book = is; early = stage.not_yet u.outline a.left }
 set_done u y k s c other (blocks.posted z kind o run is) = absurd (other kind)
 
 -- both books take it
 reads_set_up : (u : Setup) (y z : Year) (waiting : List (List ℕ)) (m k place : ℕ) (b c : Book) (kind count : ℕ) (body : List ℕ) (cs : List calls.Call) → Part kind
-    → Joint u y z waiting m k → block_on (book_with u z k) (block_of kind count k body) ≡ taken c
+    → Joint u y z waiting m k → block_on (book_with u z k) (block_of kind count k body) ≡ Ok c
     → ((v : Setup) → c ≡ book_with v z (suc k) → Frames (suc k) (framed_from (suc k) (sheets [] cs)) → Reads v z (suc k) (suc place) (framed_from (suc k) (sheets [] cs)) b)
     → Frames m (framed_from m (sheets waiting (set_up kind count body ∷ cs))) → Reads u y m place (framed_from m (sheets waiting (set_up kind count body ∷ cs))) b
 unfolding sheets framed_from
@@ -274,10 +259,10 @@ reads_set_up u y z waiting m k place b c kind count body cs part j e rest =
     let d = set_done u z k s c (not_posts part.0 held) (block_done (book_with u z k) c s e).1 in
     let none = j.before d.early in
     subst (λ (x : Year). Claim x waiting m) (same_year u y z waiting m k j none.0)
-    (subst (λ (l : List (List ℕ)). Claim z l m) (sym (none_waits waiting none.0))
+    (subst (λ (l : List (List ℕ)). Claim z l m) (sym (nil_from_length waiting none.0))
     (subst (λ (n : ℕ). Claim z [] n) (sym none.1)
     (λ f.
-    reads_next u d.setup z z k place s (framed_from (suc k) (sheets [] cs)) b (e ∙ ap taken d.book)
+    reads_next u d.setup z z k place s (framed_from (suc k) (sheets [] cs)) b (e ∙ ap Ok d.book)
     (rest d.setup (d.book ∙ ap (book_with d.setup z) (add-one k)) f.1))))
   where
     Claim : Year → List (List ℕ) → ℕ → Type 0
@@ -286,13 +271,13 @@ reads_set_up u y z waiting m k place b c kind count body cs part j e rest =
 -- ---- all calls
 
 -- after the last call
-reads_last : (u : Setup) (y : Year) (m k place : ℕ) (b : Book) → taken (book_with u y k) ≡ taken b → Reads u y m place (framed_from m (sheets [] [])) b
+reads_last : (u : Setup) (y : Year) (m k place : ℕ) (b : Book) → ◌≡◌ {A = Answer Book} (Ok (book_with u y k)) (Ok b) → Reads u y m place (framed_from m (sheets [] [])) b
 unfolding sheets framed_from
-reads_last u y m k place b e = let is : book_with u y k ≡ b = cc in subst (λ (c : Book). Reads u y m place [] c) is (reads_none u y m place k)
+reads_last u y m k place b e = let is : b ≡ book_with u y k = cc in rw is (reads_none u y m place k)
 
 -- whatever waits: the book that reads the journal of calls, once ended, is then the book that took them singly, but for its block number
-reads_all : (cs : List calls.Call) → Kinds cs → (u : Setup) (y z : Year) (waiting : List (List ℕ)) (m k place : ℕ) (b : Book) → Joint u y z waiting m k
-    → Frames m (framed_from m (sheets waiting (cs ++ (end ∷ [])))) → all_taken (book_with u z k) (singly k cs) ≡ taken b
+reads_all : (cs : List calls.Call) → AllByRecursion SetsUp cs → (u : Setup) (y z : Year) (waiting : List (List ℕ)) (m k place : ℕ) (b : Book) → Joint u y z waiting m k
+    → Frames m (framed_from m (sheets waiting (cs ++ (end ∷ [])))) → all_taken (book_with u z k) (singly k cs) ≡ Ok b
     → Reads u y m place (framed_from m (sheets waiting (cs ++ (end ∷ [])))) b
 unfolding all_taken singly single_on
 reads_all [] kinds u y z waiting m k place b j f e = reads_end u y z waiting m k place b [] j (λ n p i h. reads_last u z n k p b e) f
@@ -303,12 +288,12 @@ reads_all (set_up kind count body ∷ cs) kinds u y z waiting m k place b j f e 
     reads_all cs kinds.1 v z z [] (suc k) (suc k) (suc place) b (joint_none v z (suc k) (suc k) (λ t. refl)) h (ap (λ (c : Book). all_taken c (singly (suc k) cs)) (sym is) ∙ a.2)) f
 reads_all (calls.post s ∷ cs) kinds u y z waiting m k place b j f e =
     let a = was_taken (single_on (book_with u z k) s) (λ c. all_taken c (singly k cs)) b e in
-    let p = was_taken (post_on u z s) (λ x. taken (book_with u x k)) a.0 a.1 in
+    let p = was_taken (post_on u z s) (λ x. Ok (book_with u x k)) a.0 a.1 in
     let is : a.0 ≡ book_with u p.0 k = cc in
     reads_post u y z p.0 waiting m k place b s (cs ++ (end ∷ [])) j p.1
-    (λ w l n q i h. reads_all cs kinds u w p.0 l n k q b i h (ap (λ (c : Book). all_taken c (singly k cs)) (sym is) ∙ a.2)) f
+    (λ w l n q i h. reads_all cs kinds.1 u w p.0 l n k q b i h (ap (λ (c : Book). all_taken c (singly k cs)) (sym is) ∙ a.2)) f
 reads_all (end ∷ cs) kinds u y z waiting m k place b j f e =
-    reads_end u y z waiting m k place b (cs ++ (end ∷ [])) j (λ n p i h. reads_all cs kinds u z z [] n k p b i h e) f
+    reads_end u y z waiting m k place b (cs ++ (end ∷ [])) j (λ n p i h. reads_all cs kinds.1 u z z [] n k p b i h e) f
 
 -- ---- the claims
 

@@ -1,14 +1,12 @@
 -- The set-up of a book is what the accepted set-up blocks say. Assumes nothing.
 use mathlib.Core.Path.{◌≡◌, refl, sym, ap, subst, ◌∙◌}
-use mathlib.Core.Bool.{Bool, false, cond}
+use mathlib.Core.Bool.{Bool, false}
 use mathlib.Core.List.{List, [], ◌∷◌, ◌++◌}
 use Prim.Native.Nat.{ℕ, ◌+◌, ◌*◌, ◌≤◌, ◌<◌}
-use native.Mathlib.Decide.{ℕ_discrete}
 use native.Mathlib.Omega.{arith}
-use borrow.Author.Tests.{eq-eqb, ne_eqb}
-use lib.Dec.{eqb}
+use Rattle.std.proofs.lemmas.Bool.Decides.{nat_tests}
+use Rattle.std.proofs.lemmas.Grind.{common_steps}
 use lib.ListN.{length, get_or, drop, set}
-use lib.Seq.{get_or-set_same, get_or-set_other}
 use Rattle.encoding.specs.Each.{put_to}
 use Rattle.amounts.specs.Decline.{value_or}
 use Rattle.plant.specs.Setup.{no_rates, materials_in, numbers_in, classes_in, contents_in, counted_all, setup_of, SoundSetup}
@@ -36,14 +34,14 @@ below_next n (s ∷ blocks) x e h = (omega (arith, h.0), below_next n blocks x e
 -- is the block of that stage
 stage_new : (n : ℕ) (blocks : List (List ℕ)) (x : List ℕ) → count_of x ≡ n → Below n blocks → stage_in n (blocks ++ (x ∷ [])) ≡ body_of x
 unfolding stage_in
-stage_new n [] x e h = rw (eq-eqb (count_of x) n e)
-stage_new n (s ∷ blocks) x e h = rw (ne_eqb (count_of s) n (λ f. omega (arith, h.0))) (stage_new n blocks x e h.1)
+stage_new n [] x e h = grind (arith, nat_tests)
+stage_new n (s ∷ blocks) x e h = grind (arith, nat_tests, stage_new n blocks x e)
 
 -- and of no other
 stage_old : (n : ℕ) (blocks : List (List ℕ)) (x : List ℕ) → (count_of x ≡ n → ⊥) → stage_in n (blocks ++ (x ∷ [])) ≡ stage_in n blocks
 unfolding stage_in
-stage_old n [] x d = rw (ne_eqb (count_of x) n d)
-stage_old n (s ∷ blocks) x d = ap (λ (z : List ℕ). cond (eqb (count_of s) n) (body_of s) z) (stage_old n blocks x d)
+stage_old n [] x d = grind (arith, nat_tests)
+stage_old n (s ∷ blocks) x d = grind (arith, nat_tests, stage_old n blocks x d)
 
 stage_none : (n : ℕ) → stage_in n [] ≡ []
 unfolding stage_in
@@ -100,17 +98,7 @@ module _ (t x : List ℕ) (stages : List (List ℕ)) (u : Setup) (h : SetBy t st
   -- what is written at the stage's place is there, and the other places stand
   destination : (case : List ℕ → Bool) (l : List Bool) → length l ≡ 8 → ((k : ℕ) → k < 8 → get_or l k false ≡ case (stage_in k stages))
       → (k : ℕ) → k < 8 → get_or (set l (count_of x) (case (body_of x))) k false ≡ case (stage_in k (stages ++ (x ∷ [])))
-  destination case l long before k hk = go (ℕ_discrete (count_of x) k)
-    where
-      go : Dec (count_of x ≡ k) → get_or (set l (count_of x) (case (body_of x))) k false ≡ case (stage_in k (stages ++ (x ∷ [])))
-      go (yes e) =
-          subst (λ (j : ℕ). get_or (set l (count_of x) (case (body_of x))) j false ≡ case (stage_in j (stages ++ (x ∷ [])))) e
-          (get_or-set_same l (count_of x) (case (body_of x)) false (omega (arith, few))
-          ∙ ap case (sym (stage_new (count_of x) stages x refl (subst (λ (n : ℕ). Below n stages) (sym a.next) h.below))))
-      go (no d) =
-          get_or-set_other l (count_of x) k (case (body_of x)) false (λ e. d (sym e))
-          ∙ before k hk
-          ∙ ap case (sym (stage_old k stages x d))
+  destination case l long before k hk = grind (arith, common_steps, few, a.next, h.below, before k hk, stage_new k stages x, stage_old k stages x)
 
   -- and so for the pairs of the stage
   module _ {A : Type 0} (row : List ℕ → ℕ → A) (l : List A) (d : A) (long : length l ≡ 64)
@@ -119,18 +107,12 @@ module _ (t x : List ℕ) (stages : List (List ℕ)) (u : Setup) (h : SetBy t st
     put = put_to (λ i. count_of x * 8 + i) (row (drop 2 (body_of x))) l u.outline.substances
 
     pairs : (k s : ℕ) → k < 8 → s < u.outline.substances → get_or put (k * 8 + s) d ≡ row (drop 2 (stage_in k (stages ++ (x ∷ [])))) s
-    pairs k s hk hs = go (ℕ_discrete (count_of x) k)
-      where
-        go : Dec (count_of x ≡ k) → get_or put (k * 8 + s) d ≡ row (drop 2 (stage_in k (stages ++ (x ∷ [])))) s
-        go (yes e) =
-            subst (λ (j : ℕ). get_or put (j * 8 + s) d ≡ row (drop 2 (stage_in j (stages ++ (x ∷ [])))) s) e
-            (put_at (λ i. count_of x * 8 + i) (row (drop 2 (body_of x))) l u.outline.substances s d (λ i j q. omega arith) hs (omega (arith, few, w.substances_few))
-            ∙ ap (λ (y : List ℕ). row (drop 2 y) s) (sym (stage_new (count_of x) stages x refl (subst (λ (n : ℕ). Below n stages) (sym a.next) h.below))))
-        go (no q) =
-            put_other (λ i. count_of x * 8 + i) (row (drop 2 (body_of x))) l u.outline.substances (k * 8 + s) d
-            (λ i hi e. q (omega (arith, w.substances_few)))
-            ∙ before k s hk hs
-            ∙ ap (λ (y : List ℕ). row (drop 2 y) s) (sym (stage_old k stages x q))
+    pairs k s hk hs =
+        let small = w.substances_few in
+        let place : ℕ → ℕ = λ i. count_of x * 8 + i in
+        let there = put_at place (row (drop 2 (body_of x))) l u.outline.substances s d (λ i j q. omega arith) hs in
+        let elsewhere = put_other place (row (drop 2 (body_of x))) l u.outline.substances (k * 8 + s) d in
+        grind (arith, a.next, h.below, before k s hk hs, there, elsewhere, stage_new k stages x, stage_old k stages x)
 
   pub set_next : SetBy t (stages ++ (x ∷ [])) (with_stage u (count_of x) (body_of x))
   set_next =

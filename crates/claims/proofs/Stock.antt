@@ -3,8 +3,7 @@ use mathlib.Core.Path.{◌≡◌, refl}
 use Prim.Native.Nat.{ℕ, ◌+◌, ◌<◌}
 use native.Mathlib.Omega.{arith}
 use lib.ListN.{get_or}
-use Rattle.book.specs.Site.{fresh_book}
-use Rattle.book.specs.declared.site.Book.{Book}
+use Rattle.book.specs.Site.{Book, fresh_book}
 use Rattle.stock.proofs.sheet.Laws.{same_sheet}
 use Rattle.claims.specs.Stock.{materials_of, received_as, issued_as, grams_received, grams_issued, store_of, StockByPosts}
 use Rattle.claims.specs.Standing.{Standing, standing, run, numbers_of}

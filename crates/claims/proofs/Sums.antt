@@ -1,8 +1,9 @@
 -- Sums over the moves of posts. Assumes nothing.
-use mathlib.Core.Path.{◌≡◌, refl, ap}
-use mathlib.Core.List.{List, [], ◌∷◌, ◌++◌, map}
+use mathlib.Core.Path.{◌≡◌, refl}
+use mathlib.Core.List.{List, [], ◌∷◌, ◌++◌}
 use Prim.Native.Nat.{ℕ, ◌+◌}
 use native.Mathlib.Omega.{arith}
+use Rattle.std.specs.List.{AllByRecursion}
 use Rattle.post.specs.declared.moves.Move.{Move}
 use Rattle.claims.specs.Standing.{sum_over}
 
@@ -16,22 +17,14 @@ unfolding sum_over
 sum_last f [] m = omega arith
 sum_last f (x ∷ ms) m = omega (arith, sum_last f ms m)
 
--- each of a list
-abbrev pub Each : {A : Type 0} → (A → Type 0) → List A → Type 0
-Each P [] = Unit
-Each P (m ∷ ms) = P m × Each P ms
-
-pub each_last : {A : Type 0} (P : A → Type 0) (ms : List A) (m : A) → Each P ms → P m → Each P (ms ++ (m ∷ []))
+-- what holds of each of a list, and of one more
+pub each_last : {A : Type 0} (P : A → Type 0) (ms : List A) (m : A) → AllByRecursion P ms → P m → AllByRecursion P (ms ++ (m ∷ []))
 each_last P [] m h e = (e, tt)
 each_last P (x ∷ ms) m h e = (h.0, each_last P ms m h.1 e)
 
 -- sums whose terms add up
-pub over_three : (P : Move → Type 0) (f g h k : Move → ℕ) (ms : List Move) → Each P ms → ((m : Move) → P m → f m ≡ g m + h m + k m)
+pub over_three : (P : Move → Type 0) (f g h k : Move → ℕ) (ms : List Move) → AllByRecursion P ms → ((m : Move) → P m → f m ≡ g m + h m + k m)
     → sum_over f ms ≡ sum_over g ms + sum_over h ms + sum_over k ms
 unfolding sum_over
 over_three P f g h k [] l e = omega arith
 over_three P f g h k (m ∷ ms) l e = omega (arith, e m l.0, over_three P f g h k ms l.1 e)
-
-pub map_last : {A B : Type 0} (f : A → B) (xs : List A) (x : A) → map f (xs ++ (x ∷ [])) ≡ map f xs ++ (f x ∷ [])
-map_last f [] x = refl
-map_last f (y ∷ xs) x = ap (λ (l : List _). f y ∷ l) (map_last f xs x)

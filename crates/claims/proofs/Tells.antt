@@ -1,36 +1,35 @@
 -- A book is what the accepted calls tell: one relation, which every accepted call keeps. Assumes nothing.
 use mathlib.Core.Path.{◌≡◌, refl, sym, ap, subst, ◌∙◌}
-use mathlib.Core.Bool.{true, false, true≢false, not}
+use mathlib.Core.Bool.{true, false}
 use mathlib.Core.List.{List, [], ◌∷◌, ◌++◌, append_assoc, append-nil, map}
 use Prim.Native.Nat.{ℕ, zero, suc, ◌+◌, ◌*◌, ◌^◌, ◌≤◌, ◌<◌}
 use native.Mathlib.Omega.{arith}
-use lib.Dec.{eqb}
 use lib.ListN.{length, get_or, length-append}
-use Rattle.amounts.specs.Decline.{Answer, taken, declined, is_taken, value_or}
+use Rattle.std.proofs.lemmas.Bool.Decides.{nat_tests}
+use Rattle.std.proofs.lemmas.List.{nil_from_length, map_push}
+use Rattle.std.specs.List.{AllByRecursion}
+use Rattle.std.specs.Prelude.{Ok, Err}
+use Rattle.amounts.specs.Decline.{Answer, is_taken, value_or}
 use Rattle.amounts.proofs.decline.Laws.{was_taken}
 use Rattle.encoding.specs.Each.{list_to}
-use Rattle.layout.specs.Frame.{block_kind, count_of, body_of}
-use Rattle.layout.specs.Holds.{holds_of}
-use Rattle.layout.specs.declared.holds.Holds.{Holds}
-use Rattle.layout.specs.declared.holds.Holds.TheVariants.{SetUp, Posts}
-use Rattle.layout.specs.declared.holds.SetupPart.TheVariants.{Materials, Stage}
+use Rattle.layout.specs.Frame.{count_of, body_of}
 use Rattle.layout.specs.Outline.{may_post}
 use Rattle.layout.specs.Posts.{post_in}
 use Rattle.plant.specs.Setup.{materials_in, setup_of, SoundSetup}
 use Rattle.plant.specs.Stage.{with_stage}
 use Rattle.layout.specs.declared.outline.Outline.{Outline}
 use Rattle.plant.specs.declared.setup.Setup.{Setup}
-use Rattle.encoding.proofs.Each.{and_true}
+use Rattle.kinds.specs.Account.{place}
+use Rattle.kinds.proofs.account.Laws.{place_few}
 use Rattle.kinds.specs.Fields.{post_at}
 use Rattle.kinds.specs.Kind.{Row, kind_of}
-use Rattle.post.specs.Moves.{move_in, said, closes}
+use Rattle.post.specs.Moves.{move_in, said}
 use Rattle.post.specs.declared.moves.Move.{Move}
 use Rattle.post.proofs.moves.Laws.{move_fits}
 use Rattle.post.proofs.moves.Named.{Named, row_read, said_is, move_named}
-use Rattle.book.specs.Entry.{enters, handles, sums_after}
+use Rattle.book.specs.Entry.{enters, handles}
 use Rattle.book.specs.Posts.{post_on, taken_to, single_on}
-use Rattle.book.specs.Site.{SoundYear, in_year, open_posts, book_with, fresh_book}
-use Rattle.book.specs.declared.site.Book.{Book}
+use Rattle.book.specs.Site.{Book, SoundYear, in_year, open_posts, book_with, fresh_book}
 use Rattle.book.specs.declared.site.Year.{Year}
 use Rattle.book.proofs.block.Laws.{Done, set_up, described, posted, block_done, done_sound, SoundParts}
 use Rattle.book.proofs.entry.Laws.{room_of}
@@ -41,13 +40,13 @@ use Rattle.plant.proofs.setup.Taken as first
 use Rattle.book.proofs.site.Laws.{sound_fresh, open_posts_le}
 use Rattle.plant.proofs.stage.Taken as stage
 use Rattle.claims.specs.Demand as demand
-use Rattle.claims.specs.Standing.{Call, post, block, answer_to, run, keep, accepted, Standing, nothing, with_posts, with_block, stand, stood, standing}
+use Rattle.claims.specs.Standing.{Call, post, block, answer_to, run, keep, accepted, Standing, nothing, with_posts, stand, stood, standing}
 use Rattle.claims.specs.Standing.{substances_of, numbers_of, counted_in, moves_of, sum_over}
 use Rattle.claims.proofs.Setting.{SetBy, set_by, set_next}
 use Rattle.claims.specs.Stock.{materials_of}
 use Rattle.claims.proofs.Stores.{comes, goes, store_next}
 use Rattle.claims.proofs.State.{State, state_none, none_open, state_next}
-use Rattle.claims.proofs.Sums.{Each, each_last, sum_nil, sum_last, map_last}
+use Rattle.claims.proofs.Sums.{each_last, sum_nil, sum_last}
 
 -- ---- the relation
 
@@ -58,7 +57,7 @@ pub data Setting (w : Standing) (u : Setup) : Type 0 where
 
 -- the bytes of a post say a move by the row of their kind
 abbrev pub Read : List ℕ → List ℕ → Type 0
-Read numbers s = (r : Row) × (kind_of (post_at s).kind ≡ taken r) × (move_in r numbers (post_at s) ≡ taken (said numbers s))
+Read numbers s = (r : Row) × (kind_of (post_at s).kind ≡ Ok r) × (move_in r numbers (post_at s) ≡ Ok (said numbers s))
 
 pub record Tells (w : Standing) (b : Book) : Type 0 where
   pub sound : SoundParts b
@@ -67,8 +66,8 @@ pub record Tells (w : Standing) (b : Book) : Type 0 where
   pub entered : (s : ℕ) → s < 8 → in_year b.setup b.year s ≡ demand.entered w s
   pub handled : (s : ℕ) → s < 8 → get_or b.year.handled s 0 ≡ demand.handled w s
   pub store : (m : ℕ) → m < 12 → get_or b.year.store m 0 + sum_over (goes m) (moves_of w) ≡ sum_over (comes m) (moves_of w)
-  pub named : Each Named (moves_of w)
-  pub read : Each (Read (numbers_of w)) w.posts
+  pub named : AllByRecursion Named (moves_of w)
+  pub read : AllByRecursion (Read (numbers_of w)) w.posts
   pub state : State (counted_in w) b.setup.to_water (moves_of w) b.year.sums b.year.closed
 
 -- the substances of the book are those that stand
@@ -89,16 +88,12 @@ materials_are w b h = go h.setting
 
 -- ---- a book without posts, as made and while it is set up
 
-no_length : {A : Type 0} (l : List A) → length l ≡ 0 → l ≡ []
-no_length [] e = refl
-no_length (x ∷ l) e = absurd (omega arith)
-
 module _ (w : Standing) (u : Setup) (y : Year) (blocks : ℕ) (h : SoundSetup u) (g : SoundYear u y) (none : y.posts ≡ 0) (no-posts : w.posts ≡ []) where
   no_moves : moves_of w ≡ []
   no_moves = ap (map (said (numbers_of w))) no-posts
 
   nothing_in : (f : Move → ℕ) → sum_over f (moves_of w) ≡ 0
-  nothing_in f = ap (sum_over f) no_moves ∙ sum_nil f
+  nothing_in f = rw no_moves (sum_nil f)
 
   zero_of : (x n : ℕ) → x ≤ 2 * 10 ^ 15 * n → n ≡ 0 → x ≡ 0
   zero_of x n l e = omega arith
@@ -114,16 +109,13 @@ module _ (w : Standing) (u : Setup) (y : Year) (blocks : ℕ) (h : SoundSetup u)
       record {
         sound = record { setup = h; year = g };
         setting = setting;
-        count = none ∙ sym (ap length no-posts);
+        count = rw no-posts none;
         entered = λ s hs. in_none s hs ∙ sym (nothing_in (enters (counted_in w) s));
         handled = λ s hs. omega (arith, g.weighed s hs, in_none s hs, nothing_in (handles (counted_in w) s));
         store = λ m hm. omega (arith, no_grams m hm, nothing_in (goes m), nothing_in (comes m));
-        named = subst (Each Named) (sym no_moves) tt;
-        read = subst (Each (Read (numbers_of w))) (sym no-posts) tt;
-        state =
-            subst (λ (ms : List Move). State (counted_in w) u.to_water ms y.sums y.closed) (sym no_moves)
-            (state_none (counted_in w) u.to_water y.sums y.closed o
-            (λ a k s ha hk hs. omega (arith, cell_le y.sums a k s ha hk, in_none s hs)));
+        named = rw no_moves tt;
+        read = rw no-posts tt;
+        state = rw no_moves (state_none (counted_in w) u.to_water y.sums y.closed o (λ a k s hk hs. omega (arith, cell_le y.sums (place a) k s (place_few a) hk, in_none s hs)));
       }
 
 pub tells_fresh : Tells nothing fresh_book
@@ -133,13 +125,7 @@ tells_fresh = tells_empty nothing fresh_book.setup fresh_book.year 0 sound_fresh
 
 -- a book in whose turn a post comes has substances
 post_later : (o : Outline) → may_post o ≡ true → 1 ≤ o.substances
-post_later o e =
-    let t = (and_true (not (eqb o.substances 0)) (eqb o.described o.stages) e).0 in
-    some o.substances t
-  where
-    some : (n : ℕ) → not (eqb n 0) ≡ true → 1 ≤ n
-    some zero t = absurd (true≢false (sym t))
-    some (suc n) t = omega arith
+post_later o e = grind (arith, nat_tests)
 
 -- it is set up by the bytes that stand
 was_set : (w : Standing) (u : Setup) → 1 ≤ u.outline.substances → Setting w u → SetBy w.first w.stages u
@@ -162,15 +148,15 @@ module _ (w : Standing) (b : Book) (z : Year) (s : List ℕ) (blocks : ℕ) (h :
 
   was_read : Read (numbers_of w) s
   was_read =
-      subst (λ (l : List ℕ). Read l s) by.numbers
-      (let z = row_read u.outline u.numbers s p.move p.admitted.told in
-      (z.0, z.1, z.2 ∙ ap taken (sym (said_is u.outline u.numbers s p.move p.admitted.told))))
+      let is = said_is u.outline u.numbers s p.move p.admitted.told in
+      let z = row_read u.outline u.numbers s p.move p.admitted.told in
+      rw (← by.numbers) (z.0, z.1, rw is z.2)
 
   moves_next : moves_of (with_posts w (s ∷ [])) ≡ moves_of w ++ (p.move ∷ [])
-  moves_next = map_last (said (numbers_of w)) w.posts s ∙ ap (λ (m : Move). moves_of w ++ (m ∷ [])) says
+  moves_next = rw (map_push (said (numbers_of w)) w.posts s, says)
 
   sum_next : (f : Move → ℕ) → sum_over f (moves_of (with_posts w (s ∷ []))) ≡ sum_over f (moves_of w) + f p.move
-  sum_next f = ap (sum_over f) moves_next ∙ sum_last f (moves_of w) p.move
+  sum_next f = rw moves_next (sum_last f (moves_of w) p.move)
 
   counted_is : u.counted ≡ counted_in w
   counted_is = by.counted
@@ -180,7 +166,7 @@ module _ (w : Standing) (b : Book) (z : Year) (s : List ℕ) (blocks : ℕ) (h :
       let step = post_step u y z s h.sound.setup h.sound.year p in
       let m = p.move in
       let fit = move_fits u.outline u.numbers s m p.admitted.told in
-      let room = room_of u y h.sound.setup h.sound.year m fit in
+      let room = room_of u y h.sound.setup h.sound.year m fit p.admitted.is_open in
       let is-named = move_named u.outline u.numbers s m p.admitted.told in
       record {
         sound = record { setup = h.sound.setup; year = step.sound };
@@ -198,27 +184,20 @@ module _ (w : Standing) (b : Book) (z : Year) (s : List ℕ) (blocks : ℕ) (h :
               sum_next (goes i),
               sum_next (comes i),
             );
-        named = subst (Each Named) (sym moves_next) (each_last Named (moves_of w) m h.named is-named);
+        named = rw moves_next (each_last Named (moves_of w) m h.named is-named);
         read = each_last (Read (numbers_of w)) w.posts s h.read was_read;
         state =
-            subst (λ (ms : List Move). State (counted_in w) u.to_water ms z.sums z.closed) (sym moves_next)
-            (subst (λ (x : Year). State (counted_in w) u.to_water (moves_of w ++ (m ∷ [])) x.sums x.closed) (sym p.year)
-            (subst (λ (l : List ℕ). State (counted_in w) u.to_water (moves_of w ++ (m ∷ [])) (sums_after l u.to_water y.sums m) (closes m)) (sym counted_is)
-            (state_next (counted_in w) u.to_water y.store y.sums (moves_of w) y.closed m h.sound.year.sums_long p.admitted.is_open room.fits
-            is-named p.there h.state)));
+            rw (moves_next, p.year, counted_is)
+            (state_next (counted_in w) u.to_water y.store y.sums (moves_of w) y.closed m h.sound.year.sums_long p.admitted.is_open room.fits is-named p.there h.state);
       }
 
 -- posts in turn
-same_with : (w : Standing) (ps qs : List (List ℕ)) → with_posts (with_posts w ps) qs ≡ with_posts w (ps ++ qs)
-same_with w ps qs = ap (λ (l : List (List ℕ)). record { first = w.first; stages = w.stages; posts = l }) (append_assoc w.posts ps qs)
-
 pub tells_many : (w : Standing) (b : Book) (z : Year) (f : ℕ → List ℕ) (n blocks : ℕ) → Tells w b
-    → taken_to b.setup b.year f n ≡ taken z → Tells (with_posts w (list_to n f)) (book_with b.setup z blocks)
+    → taken_to b.setup b.year f n ≡ Ok z → Tells (with_posts w (list_to n f)) (book_with b.setup z blocks)
 unfolding taken_to list_to
 tells_many w b z f zero blocks h e =
-    let q : b.year ≡ z = cc in
-    subst (λ (x : Year). Tells (with_posts w []) (book_with b.setup x blocks)) q
-    (subst (λ (ps : List (List ℕ)). Tells (record { first = w.first; stages = w.stages; posts = ps }) (book_with b.setup b.year blocks)) (sym (append-nil w.posts))
+    let q : z ≡ b.year = cc in
+    rw (q, append-nil w.posts)
     (record {
       sound = record { setup = h.sound.setup; year = h.sound.year };
       setting = h.setting;
@@ -229,27 +208,23 @@ tells_many w b z f zero blocks h e =
       named = h.named;
       read = h.read;
       state = h.state;
-    }))
+    })
 tells_many w b z f (suc n) blocks h e =
     let a = was_taken (taken_to b.setup b.year f n) (λ d. post_on b.setup d (f n)) z e in
     let before = tells_many w b a.0 f n blocks h a.1 in
-    subst (λ (x : Standing). Tells x (book_with b.setup z blocks)) (same_with w (list_to n f) (f n ∷ []))
+    rw (← append_assoc w.posts (list_to n f) (f n ∷ []))
     (tells_post (with_posts w (list_to n f)) (book_with b.setup a.0 blocks) z (f n) blocks before (posts.posted b.setup a.0 z (f n) a.2))
 
 -- ---- a block
 
 -- a book with a stage left to describe has substances
 stage_later : (o : Outline) → (o.substances ≡ 0 → o.stages ≡ 0) → o.described < o.stages → 1 ≤ o.substances
-stage_later o h l = go o.substances h
-  where
-    go : (n : ℕ) → (n ≡ 0 → o.stages ≡ 0) → 1 ≤ n
-    go zero f = let none = f refl in absurd (omega arith)
-    go (suc n) f = omega arith
+stage_later o h l = grind arith
 
 -- a set-up block comes before any post
 module _ (w : Standing) (b : Book) (h : Tells w b) (none : b.year.posts ≡ 0) where
   none_posted : w.posts ≡ []
-  none_posted = no_length w.posts (sym h.count ∙ none)
+  none_posted = nil_from_length w.posts (sym h.count ∙ none)
 
   is_open : b.year.closed ≡ false
   is_open = none_open (counted_in w) b.setup.to_water b.year.sums (moves_of w) b.year.closed (ap (map (said (numbers_of w))) none_posted) h.state
@@ -259,10 +234,6 @@ no_stages : (w : Standing) (u : Setup) → u.outline.substances ≡ 0 → Settin
 no_stages w u z (unset e f g _) = f
 no_stages w u z (is_set f) = absurd (omega (arith, f.some))
 
--- what stands after a block, by what it holds
-stand_by : (w : Standing) (s : List ℕ) (h : Holds) → holds_of (block_kind s) ≡ taken h → with_block w s (taken h) ≡ stand w (block s)
-stand_by w s h k = ap (with_block w s) (sym k)
-
 tells_done : (w : Standing) (b c : Book) (s : List ℕ) → Tells w b → Done b s c → Tells (stand w (block s)) c
 tells_done w b c s h (set_up k a is) =
     let none = h.sound.year.none_before (first.not_yet b.setup.outline a.none) in
@@ -271,9 +242,7 @@ tells_done w b c s h (set_up k a is) =
     let u = setup_of (count_of s) (body_of s) in
     let by = subst (λ (bs : List (List ℕ)). SetBy s bs u) (sym (no_stages w b.setup a.none h.setting)) (set_by s a.substances.0) in
     let q = subst SoundParts is g in
-    subst (λ (x : Book). Tells (stand w (block s)) x) (sym is)
-    (subst (λ (x : Standing). Tells x (book_with u b.year (b.blocks + 1))) (stand_by w s (SetUp Materials) k)
-    (tells_empty v u b.year (b.blocks + 1) q.setup q.year none (none_posted w b h none) (is_open w b h none) (is_set by)))
+    rw (is, k) (tells_empty v u b.year (b.blocks + 1) q.setup q.year none (none_posted w b h none) (is_open w b h none) (is_set by))
 tells_done w b c s h (described k a is) =
     let none = h.sound.year.none_before (stage.not_yet b.setup.outline a.left) in
     let g = done_sound b c s h.sound (described k a is) in
@@ -282,22 +251,18 @@ tells_done w b c s h (described k a is) =
     let had = was_set w b.setup (stage_later b.setup.outline h.sound.setup.stages_later a.left) h.setting in
     let by = set_next w.first s w.stages b.setup had h.sound.setup a in
     let q = subst SoundParts is g in
-    subst (λ (x : Book). Tells (stand w (block s)) x) (sym is)
-    (subst (λ (x : Standing). Tells x (book_with u b.year (b.blocks + 1))) (stand_by w s (SetUp Stage) k)
-    (tells_empty v u b.year (b.blocks + 1) q.setup q.year none (none_posted w b h none) (is_open w b h none) (is_set by)))
+    rw (is, k) (tells_empty v u b.year (b.blocks + 1) q.setup q.year none (none_posted w b h none) (is_open w b h none) (is_set by))
 tells_done w b c s h (posted z k o e is) =
-    subst (λ (x : Book). Tells (stand w (block s)) x) (sym is)
-    (subst (λ (x : Standing). Tells x (book_with b.setup z (b.blocks + 1))) (stand_by w s Posts k)
-    (tells_many w b z (post_in (body_of s)) (count_of s) (b.blocks + 1) h e))
+    rw (is, k) (tells_many w b z (post_in (body_of s)) (count_of s) (b.blocks + 1) h e)
 
 -- ---- a call, and a list of calls
 
-pub tells_call : (w : Standing) (b c : Book) (call : Call) → Tells w b → answer_to b call ≡ taken c → Tells (stand w call) c
+pub tells_call : (w : Standing) (b c : Book) (call : Call) → Tells w b → answer_to b call ≡ Ok c → Tells (stand w call) c
 unfolding single_on
 tells_call w b c (post s) h e =
-    let a = was_taken (post_on b.setup b.year s) (λ y. taken (book_with b.setup y b.blocks)) c e in
-    let is : book_with b.setup a.0 b.blocks ≡ c = cc in
-    subst (λ (x : Book). Tells (with_posts w (s ∷ [])) x) is (tells_post w b a.0 s b.blocks h (posts.posted b.setup b.year a.0 s a.1))
+    let a = was_taken (post_on b.setup b.year s) (λ y. Ok (book_with b.setup y b.blocks)) c e in
+    let is : c ≡ book_with b.setup a.0 b.blocks = cc in
+    rw is (tells_post w b a.0 s b.blocks h (posts.posted b.setup b.year a.0 s a.1))
 tells_call w b c (block s) h e = tells_done w b c s h (block_done b c s e).1
 
 -- the first call, by its answer
@@ -307,8 +272,8 @@ Keeps calls = (w : Standing) (b : Book) → Tells w b → Tells (stood w (accept
 first_call : (w : Standing) (b : Book) (call : Call) (calls : List Call) → Tells w b → Keeps calls → (a : Answer Book) → answer_to b call ≡ a
     → Tells (stood w (keep (is_taken a) call (accepted (value_or b a) calls))) (run (value_or b a) calls)
 unfolding stood
-first_call w b call calls h rest (declined n) e = rest w b h
-first_call w b call calls h rest (taken c) e = rest (stand w call) c (tells_call w b c call h e)
+first_call w b call calls h rest (Err n) e = rest w b h
+first_call w b call calls h rest (Ok c) e = rest (stand w call) c (tells_call w b c call h e)
 
 tells_all : (calls : List Call) → Keeps calls
 unfolding run accepted stood

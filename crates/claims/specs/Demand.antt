@@ -1,13 +1,11 @@
 -- Demand 3 (document 01, "Treatment and report"): one claim about the whole list of calls.
-use Rattle.std.specs.Prelude.{ℕ, ◌+◌, ◌*◌, ◌≤◌, ◌<◌, ◌≡◌, true, List, length}
-use Rattle.amounts.specs.Decline.{taken}
+use Rattle.std.specs.Prelude.{ℕ, ◌+◌, ◌*◌, ◌≤◌, ◌<◌, ◌≡◌, true, List, length, Some, Ok}
 use Rattle.amounts.specs.Filed.{step_of}
 use Rattle.book.specs.Entry.{enters, handles}
 use Rattle.book.specs.Site.{fresh_book}
 use Rattle.report.specs.Fate.{six_of, weigh, map_headings}
 use Rattle.report.specs.Report.{report_of}
 use Rattle.report.specs.declared.fate.Headings.{Headings}
-use Rattle.report.specs.declared.report.Filing.TheVariants.{Figures}
 use Rattle.report.specs.declared.report.Report.{Report}
 use Rattle.claims.specs.Standing.{Call, run, Standing, standing, substances_of, counted_in, moves_of, sum_over}
 
@@ -33,7 +31,7 @@ pub record Balanced (w : Standing) (s : ℕ) (r : Report) : Type 0 where
   -- which is what the report returns as handled
   pub shown : r.handled ≡ handled w s
   -- the filed figures and the exact amounts: "each heading's step is the one that its exact amount takes"
-  pub figures : r.due ≡ true → (h : Headings) × (r.filed ≡ Figures h) × WithinHalf (six_of (map_headings step_of r.fate.headings)) (six_of h) (six_of r.fate.headings)
+  pub figures : r.due ≡ true → (h : Headings) × (r.filed ≡ Some h) × WithinHalf (six_of (map_headings step_of r.fate.headings)) (six_of h) (six_of r.fate.headings)
   -- "the count of posts accepted"
   pub counted : r.posts ≡ length w.posts
 
@@ -41,4 +39,4 @@ pub record Balanced (w : Standing) (s : ℕ) (r : Report) : Type 0 where
 abbrev pub Demand3 : Type 0
 Demand3 =
     (calls : List Call) (s : ℕ) → s < substances_of (standing calls)
-    → (r : Report) × (report_of (run fresh_book calls) s ≡ taken r) × Balanced (standing calls) s r
+    → (r : Report) × (report_of (run fresh_book calls) s ≡ Ok r) × Balanced (standing calls) s r

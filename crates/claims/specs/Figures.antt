@@ -1,7 +1,7 @@
 -- Document 01, "Figures to be established": F1 to F13, one table, each figure as it prints.
-use Rattle.std.specs.Prelude.{Bool, true, false, List, [], ◌∷◌, ℕ, ◌*◌, ◌^◌}
+use Rattle.std.specs.Prelude.{Bool, true, false, List, [], ◌∷◌, ℕ, ◌*◌, ◌^◌, Ok}
 use Rattle.amounts.specs.Content.{counted_of}
-use Rattle.amounts.specs.Decline.{Answer, taken}
+use Rattle.amounts.specs.Decline.{Answer}
 use Rattle.amounts.specs.Filed.{filed_of}
 use Rattle.amounts.specs.Threshold.{due_of}
 use Rattle.amounts.specs.Treatment.{parts_of, split_of}
@@ -42,7 +42,7 @@ abbrev pub hundreds : ℕ → ℕ → ℕ → Figure
 hundreds a b c = printed (digit a ∷ digit b ∷ digit c ∷ [])
 
 abbrev pub parts : ℕ → ℕ → ℕ → Figure
-parts a b c = split (taken (record { released = a; destroyed = b; residue = c }))
+parts a b c = split (Ok (record { released = a; destroyed = b; residue = c }))
 
 pub record Row : Type 0 where
   pub asked : Asked
@@ -66,11 +66,11 @@ table =
     ∷ (filing (225 * 10 ^ 9) gives hundreds 2 3 0)
     ∷ (filing (588 * 10 ^ 9) gives hundreds 5 9 0)
     -- F10: "10^12 − 1 in class 1 isn't due, 10^12 is"
-    ∷ (threshold 1 999999999999 gives due (taken false))
-    ∷ (threshold 1 (10 ^ 12) gives due (taken true))
+    ∷ (threshold 1 999999999999 gives due (Ok false))
+    ∷ (threshold 1 (10 ^ 12) gives due (Ok true))
     -- F11: "9,999 ppm in class 1 counts as 0, 10,000 counts"
-    ∷ (counting 1 9999 gives counted (taken 0))
-    ∷ (counting 1 10000 gives counted (taken 10000))
+    ∷ (counting 1 9999 gives counted (Ok 0))
+    ∷ (counting 1 10000 gives counted (Ok 10000))
     -- F12: "7 at r = d = 500,000: released 4, destroyed 1, residue 2"
     ∷ (splitting 7 500000 500000 gives parts 4 1 2)
     -- F13: "1 at r = 999,999: released 1"

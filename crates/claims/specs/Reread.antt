@@ -1,11 +1,9 @@
 -- A written journal against its calls one by one (document 02, (a)): "If a fresh book takes the set-up and posts that the writer took, one by one, it also takes the
 -- written journal, once ended, and then holds the same set-up, amounts and post count".
-use Rattle.std.specs.Prelude.{ℕ, suc, ◌≡◌, List, [], ◌∷◌, length}
-use Rattle.amounts.specs.Decline.{taken}
+use Rattle.std.specs.Prelude.{ℕ, suc, ◌≡◌, List, [], ◌∷◌, length, Ok}
 use Rattle.layout.specs.Frame.{block_of}
-use Rattle.book.specs.Site.{fresh_book, book_with}
+use Rattle.book.specs.Site.{Book, fresh_book, book_with}
 use Rattle.book.specs.Blocks.{parts_in, read, read_all}
-use Rattle.book.specs.declared.site.Book.{Book}
 use Rattle.journal.specs.Reading.{printed_of}
 use Rattle.text.specs.Print.{return_text}
 use Rattle.pages.specs.Calls as calls
@@ -25,7 +23,7 @@ singly number (end ∷ rest) = singly number rest
 
 -- a fresh book takes what a new writer over a lent buffer took of a list, one by one, and then is the book
 abbrev pub TakesSingly : List ℕ → List calls.Call → Book → Type 0
-TakesSingly lent list b = all_taken fresh_book (singly 0 (accepted (fresh_page lent) list)) ≡ taken b
+TakesSingly lent list b = all_taken fresh_book (singly 0 (accepted (fresh_page lent) list)) ≡ Ok b
 
 -- the written journal, once ended
 abbrev pub journal_of : List ℕ → List calls.Call → List ℕ

@@ -1,6 +1,6 @@
 -- A list of calls, and what stands after it (document 01, "Treatment and report"): all that is summed is read from the bytes of the accepted calls.
-use Rattle.std.specs.Prelude.{ℕ, ◌+◌, Bool, true, false, List, [], ◌∷◌, ◌++◌, map}
-use Rattle.amounts.specs.Decline.{Answer, taken, declined, is_taken, value_or}
+use Rattle.std.specs.Prelude.{ℕ, ◌+◌, Bool, true, false, List, [], ◌∷◌, ◌++◌, map, Ok, Err}
+use Rattle.amounts.specs.Decline.{Answer, is_taken, value_or}
 use Rattle.encoding.specs.Each.{list_to}
 use Rattle.layout.specs.Frame.{block_kind, count_of, body_of}
 use Rattle.layout.specs.Holds.{holds_of}
@@ -13,8 +13,7 @@ use Rattle.post.specs.Moves.{said}
 use Rattle.post.specs.declared.moves.Move.{Move}
 use Rattle.book.specs.Block.{block_on}
 use Rattle.book.specs.Posts.{single_on}
-use Rattle.book.specs.Site.{fresh_book}
-use Rattle.book.specs.declared.site.Book.{Book}
+use Rattle.book.specs.Site.{Book, fresh_book}
 
 -- ---- the list
 
@@ -60,10 +59,10 @@ with_posts w ps = record { first = w.first; stages = w.stages; posts = w.posts +
 
 -- a block more, by what it holds; one of no kind is never accepted, and changes nothing
 abbrev pub with_block : Standing → List ℕ → Answer Holds → Standing
-with_block w s (taken (SetUp Materials)) = record { first = s; stages = w.stages; posts = w.posts }
-with_block w s (taken (SetUp Stage)) = record { first = w.first; stages = w.stages ++ (s ∷ []); posts = w.posts }
-with_block w s (taken Posts) = with_posts w (list_to (count_of s) (post_in (body_of s)))
-with_block w s (declined n) = w
+with_block w s (Ok (SetUp Materials)) = record { first = s; stages = w.stages; posts = w.posts }
+with_block w s (Ok (SetUp Stage)) = record { first = w.first; stages = w.stages ++ (s ∷ []); posts = w.posts }
+with_block w s (Ok Posts) = with_posts w (list_to (count_of s) (post_in (body_of s)))
+with_block w s (Err n) = w
 
 -- "A post is accepted if its own call, or that of the block of posts holding it, isn't declined."
 abbrev pub stand : Standing → Call → Standing

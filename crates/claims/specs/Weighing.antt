@@ -1,7 +1,8 @@
 -- The report as the posts say it (document 01, "Posts" and "Treatment and report"; document 02, (b); document 003): each amount is a sum over the accepted posts of the list, by
 -- what the accepted set-up blocks say. All is read from bytes, and nothing from a book.
 use Rattle.std.specs.Prelude.{ℕ, ◌+◌, ◌-◌, ◌≤◌, ◌<◌, ◌≡◌, Bool, true, false, ◌&&◌, ◌||◌, cond, List, [], ◌∷◌, eqb, ltb, length, get_or, drop}
-use Rattle.amounts.specs.Decline.{Answer, check, checked, value_or, no_substance}
+use Rattle.amounts.specs.Decline.{Answer, check, checked, value_or}
+use Rattle.amounts.specs.declared.decline.Decline.TheVariants.{NoSubstance}
 use Rattle.amounts.specs.Threshold.{due_of}
 use Rattle.amounts.specs.Treatment.{parts_of}
 use Rattle.amounts.specs.declared.treatment.Parts.{Parts}
@@ -9,7 +10,9 @@ use Rattle.encoding.specs.Each.{sum_to}
 use Rattle.layout.specs.Frame.{count_of, body_of}
 use Rattle.plant.specs.Stage.{sewered, landfilled, water_row, rate_row}
 use Rattle.plant.specs.declared.setup.Rates.{Rates}
-use Rattle.kinds.specs.Account.{held, shipped, off_site, landfill, soil, consumed, gas, water, vapour}
+use Rattle.kinds.specs.Account.{place}
+use Rattle.kinds.specs.declared.account.Account.{Account}
+use Rattle.kinds.specs.declared.account.Account.TheVariants.{Held, Shipped, OffSite, Landfill, Soil, Consumed, Gas, Water, Vapour}
 use Rattle.post.specs.declared.moves.Move.{Move}
 use Rattle.post.specs.declared.moves.Move.TheVariants.{Received, Issued, Brought, Gone, Close}
 use Rattle.post.specs.Moves.{closes}
@@ -70,30 +73,30 @@ issues_to counted stage s (Gone a k t n) = 0
 issues_to counted stage s Close = 0
 
 -- what comes from outside to an account, at any stage
-abbrev pub brought : ℕ → ℕ → Move → ℕ
+abbrev pub brought : Account → ℕ → Move → ℕ
 brought account s (Received m g) = 0
 brought account s (Issued m k g) = 0
-brought account s (Brought a k t n) = cond (eqb a account && eqb t s) n 0
+brought account s (Brought a k t n) = cond (eqb (place a) (place account) && eqb t s) n 0
 brought account s (Gone a k t n) = 0
 brought account s Close = 0
 
--- an amount at an account, a stage and a substance, where those are the ones named
+-- an amount at an account by its place, a stage and a substance, where those are the ones named
 abbrev pub only_at : ℕ → ℕ → ℕ → ℕ → ℕ → ℕ → ℕ → ℕ
 only_at a k t account stage s n = cond (eqb a account && (eqb k stage && eqb t s)) n 0
 
-abbrev pub brings_to : ℕ → ℕ → ℕ → Move → ℕ
+abbrev pub brings_to : Account → ℕ → ℕ → Move → ℕ
 brings_to account stage s (Received m g) = 0
 brings_to account stage s (Issued m k g) = 0
-brings_to account stage s (Brought a k t n) = only_at a k t account stage s n
+brings_to account stage s (Brought a k t n) = only_at (place a) k t (place account) stage s n
 brings_to account stage s (Gone a k t n) = 0
 brings_to account stage s Close = 0
 
--- 5 to 12: what leaves a holding, under the name of its account
+-- 5 to 12: what leaves a holding, under the name of its account, which is given by its place
 abbrev pub goes_to : ℕ → ℕ → ℕ → Move → ℕ
 goes_to account stage s (Received m g) = 0
 goes_to account stage s (Issued m k g) = 0
 goes_to account stage s (Brought a k t n) = 0
-goes_to account stage s (Gone a k t n) = only_at a k t account stage s n
+goes_to account stage s (Gone a k t n) = only_at (place a) k t account stage s n
 goes_to account stage s Close = 0
 
 -- ---- the year's sums
@@ -111,11 +114,11 @@ store w s = received w s - issued w s
 
 -- "4 formed: stage, substance, micrograms in quantity. The holding grows"
 abbrev pub formed : Standing → ℕ → ℕ
-formed w s = sum_over (brought held s) (moves_of w)
+formed w s = sum_over (brought Held s) (moves_of w)
 
 -- "Post kind 14, found ..; its amount goes to off site in the same step" (document 02, (b))
 abbrev pub found : Standing → ℕ → ℕ
-found w s = sum_over (brought off_site s) (moves_of w)
+found w s = sum_over (brought OffSite s) (moves_of w)
 
 -- "Handled is issued plus formed", and what was found "counts as handled"
 abbrev pub handled_by : Standing → ℕ → ℕ
@@ -125,7 +128,7 @@ handled_by w s = issued w s + formed w s + found w s
 
 -- what came to its holding, and what left it
 abbrev pub came : Standing → ℕ → ℕ → ℕ
-came w s stage = sum_over (λ m. issues_to (counted_in w) stage s m + brings_to held stage s m) (moves_of w)
+came w s stage = sum_over (λ m. issues_to (counted_in w) stage s m + brings_to Held stage s m) (moves_of w)
 
 abbrev pub left : Standing → ℕ → ℕ → ℕ
 left w s stage = sum_over (λ m. sum_to 8 (λ i. goes_to (1 + i) stage s m)) (moves_of w)
@@ -134,8 +137,8 @@ abbrev pub remains : Standing → ℕ → ℕ → ℕ
 remains w s stage = came w s stage - left w s stage
 
 -- under an account's name: what left the holding for it, and what was brought to it
-abbrev pub under : ℕ → Standing → ℕ → ℕ → ℕ
-under account w s stage = sum_over (λ m. goes_to account stage s m + brings_to account stage s m) (moves_of w)
+abbrev pub under : Account → Standing → ℕ → ℕ → ℕ
+under account w s stage = sum_over (λ m. goes_to (place account) stage s m + brings_to account stage s m) (moves_of w)
 
 -- "13 close"
 unfoldable pub any_closes : List Move → Bool
@@ -165,10 +168,10 @@ to_gas true n = 0
 to_gas false n = n
 
 abbrev pub gas_total : Standing → ℕ → ℕ → ℕ
-gas_total w s stage = under gas w s stage + at_close w (to_gas (water_for w stage s) (remains w s stage))
+gas_total w s stage = under Gas w s stage + at_close w (to_gas (water_for w stage s) (remains w s stage))
 
 abbrev pub water_total : Standing → ℕ → ℕ → ℕ
-water_total w s stage = under water w s stage + at_close w (to_water (water_for w stage s) (remains w s stage))
+water_total w s stage = under Water w s stage + at_close w (to_water (water_for w stage s) (remains w s stage))
 
 -- ---- treatment: "With a the gas total, r removal and d destruction", and "Waste water alike, with its own rates"
 
@@ -191,19 +194,19 @@ unfoldable pub fate_of : Standing → ℕ → Fate
 fate_of w s =
     record {
       held = sum_to 8 (λ k. held_at w s k);
-      shipped = sum_to 8 (λ k. under shipped w s k);
-      consumed = sum_to 8 (λ k. under consumed w s k);
+      shipped = sum_to 8 (λ k. under Shipped w s k);
+      consumed = sum_to 8 (λ k. under Consumed w s k);
       destroyed = sum_to 8 (λ k. (gas_split w s k).destroyed + (water_split w s k).destroyed);
       -- "air (gas released and vapour), public water, soil, landfill, sewer, off site. Treated water goes to public water or sewer, residues to off site or
       -- landfill, as the stage says."
       headings =
           record {
-            air = sum_to 8 (λ k. (gas_split w s k).released + under vapour w s k);
+            air = sum_to 8 (λ k. (gas_split w s k).released + under Vapour w s k);
             water = sum_to 8 (λ k. to_public_water (sewered_at w k) (water_split w s k).released);
-            soil = sum_to 8 (λ k. under soil w s k);
-            land = sum_to 8 (λ k. under landfill w s k + to_landfill (landfilled_at w k) (residue w s k));
+            soil = sum_to 8 (λ k. under Soil w s k);
+            land = sum_to 8 (λ k. under Landfill w s k + to_landfill (landfilled_at w k) (residue w s k));
             sewer = sum_to 8 (λ k. to_sewer (sewered_at w k) (water_split w s k).released);
-            offsite = sum_to 8 (λ k. under off_site w s k + to_off_site (landfilled_at w k) (residue w s k));
+            offsite = sum_to 8 (λ k. under OffSite w s k + to_off_site (landfilled_at w k) (residue w s k));
           };
     }
 
@@ -226,7 +229,7 @@ report_by w s =
 
 -- "declined by 12 alone, never for a substance that the book has"
 abbrev pub answer_by : Standing → ℕ → Answer Report
-answer_by w s = checked (check (ltb s (substances_of w)) no_substance ∷ []) (report_by w s)
+answer_by w s = checked (check (ltb s (substances_of w)) NoSubstance ∷ []) (report_by w s)
 
 -- each "less" is the difference of two sums of which the first is never the smaller
 pub record Weighed (w : Standing) (s : ℕ) : Type 0 where

@@ -1,6 +1,6 @@
 -- The journal of a list of accepted calls, over their bytes alone, and what is claimed of it (document 02, (a)).
-use Rattle.std.specs.Prelude.{ℕ, suc, ◌≤◌, ◌<◌, ◌≡◌, true, false, cond, List, [], ◌∷◌, ◌++◌, eqb, length, drop}
-use Rattle.amounts.specs.Decline.{Answer, taken, declined, Check, checked, on_taken, is_taken}
+use Rattle.std.specs.Prelude.{ℕ, suc, ◌≤◌, ◌<◌, ◌≡◌, true, false, cond, List, [], ◌∷◌, ◌++◌, eqb, length, drop, Ok, Err}
+use Rattle.amounts.specs.Decline.{Answer, Check, checked, on_taken, is_taken}
 use Rattle.encoding.specs.Bytes.{padded}
 use Rattle.encoding.specs.Each.{list_to}
 use Rattle.layout.specs.Frame.{block_kind, count_of, body_of, frame_checks, block_of}
@@ -83,9 +83,9 @@ posts_taken (end ∷ calls) = posts_taken calls
 
 -- the posts that a block holds: a block of posts its count of them, another none
 abbrev pub posts_by : List ℕ → Answer block.Holds → List (List ℕ)
-posts_by s (taken (SetUp part)) = []
-posts_by s (taken Posts) = list_to (count_of s) (post_in (body_of s))
-posts_by s (declined n) = []
+posts_by s (Ok (SetUp part)) = []
+posts_by s (Ok Posts) = list_to (count_of s) (post_in (body_of s))
+posts_by s (Err n) = []
 
 abbrev pub posts_in : List ℕ → List (List ℕ)
 posts_in s = posts_by s (holds_of (block_kind s))
@@ -108,9 +108,9 @@ body_rows o s Posts = own_checks o false (count_of s) (body_of s)
 
 -- the outline after a block: only a part of the set-up changes it
 abbrev pub outline_by : Outline → List ℕ → Answer block.Holds → Outline
-outline_by o s (taken (SetUp part)) = outline_after o part (count_of s) (body_of s)
-outline_by o s (taken Posts) = o
-outline_by o s (declined n) = o
+outline_by o s (Ok (SetUp part)) = outline_after o part (count_of s) (body_of s)
+outline_by o s (Ok Posts) = o
+outline_by o s (Err n) = o
 
 abbrev pub outline_past : Outline → List ℕ → Outline
 outline_past o s = outline_by o s (holds_of (block_kind s))
@@ -119,7 +119,7 @@ outline_past o s = outline_by o s (holds_of (block_kind s))
 pub record Passes (place : ℕ) (o : Outline) (s : List ℕ) : Type 0 where
   pub frame : is_taken (checked (frame_checks place s) s) ≡ true
   pub body : is_taken (on_taken (holds_of (block_kind s)) (λ h. checked (body_rows o s h) s)) ≡ true
-  pub posts : holds_of (block_kind s) ≡ taken Posts → (i : ℕ) → i < count_of s → is_taken (well_formed o (post_in (body_of s) i)) ≡ true
+  pub posts : holds_of (block_kind s) ≡ Ok Posts → (i : ℕ) → i < count_of s → is_taken (well_formed o (post_in (body_of s) i)) ≡ true
 
 abbrev pub AllPass : ℕ → Outline → List (List ℕ) → Type 0
 AllPass place o [] = Unit

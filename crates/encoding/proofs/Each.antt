@@ -1,5 +1,5 @@
 -- Laws of what is added, asked, listed or written for each of the numbers 0 .. n - 1. Assumes nothing.
-use mathlib.Core.Path.{◌≡◌, refl, sym, ap, ◌∙◌}
+use mathlib.Core.Path.{◌≡◌, refl, sym, ap, subst, ◌∙◌}
 use mathlib.Core.Bool.{Bool, true, false, true≢false, ◌&&◌}
 use mathlib.Core.List.{List, [], ◌∷◌, ◌++◌}
 use Prim.Native.Nat.{ℕ, zero, suc, ◌+◌, ◌≤◌, ◌<◌}
@@ -8,6 +8,10 @@ use native.Mathlib.Numerals.{add-one}
 use native.Mathlib.Omega.{arith}
 use lib.ListN.{length, get_or, set, replicate, length-append, length-set, length-replicate, get_or-append, get_or-eq_default}
 use lib.Seq.{ext_get_or, get_or_at, get_or-set_same, get_or-set_other}
+use Rattle.std.specs.Array.{IsFromFnResultFrom, IsFromFnResult}
+use Rattle.std.specs.Fn.{Called}
+use denote.Param.Members.{Mut}
+use Rattle.std.proofs.lemmas.List.{nil_from_length}
 use Rattle.encoding.specs.Each.{sum_to, all_to, list_to, put_to}
 
 -- ---- sums
@@ -113,6 +117,26 @@ module _ {A : Type 0} where
       go (no u) =
           let past : length (list_to n f) ≤ i = omega (arith, length_list n f) in
           rw (get_or-eq_default (list_to n f) d past) z
+
+  -- what `array::from_fn` of a closure without a state of its own makes
+  module _ {F : Type 0} (g : Mut F (ℕ × Unit {0}) A) (p : F) (f : ℕ → A) (pure : (i : ℕ) (y : A) (q : F) → Called g p (i, tt) y q → (q ≡ p) × (y ≡ f i)) where
+    made_at : (xs : List A) (q : F) (i n k : ℕ) (d : A) → q ≡ p → IsFromFnResultFrom g q xs i n → i ≤ k → k < i + n → get_or xs k d ≡ f k
+    made_at xs q i zero k d e h l m = absurd (omega arith)
+    made_at xs q i (suc n) k d e (r, y, w, called, rest) l m = go (ℕ_discrete k i) (λ z l. made_at xs r (i + 1) n k d z rest l (omega arith))
+      where
+        step : (r ≡ p) × (y ≡ f i)
+        step = pure i y r (subst (λ (x : F). Called g x (i, tt) y r) e called)
+
+        go : Dec (k ≡ i) → (r ≡ p → i + 1 ≤ k → get_or xs k d ≡ f k) → get_or xs k d ≡ f k
+        go (yes z) later = rw z (w.1 d ∙ step.1)
+        go (no z) later = later step.0 (omega arith)
+
+    pub list_made : (xs : List A) (n : ℕ) → IsFromFnResult g p xs n → xs ≡ list_to n f
+    unfolding list_to
+    list_made xs zero h = nil_from_length xs h.long
+    list_made xs (suc n) h =
+        ext_get_or (f 0) xs (list_to (suc n) f) (h.long ∙ sym (length_list (suc n) f))
+        (λ i l. made_at xs p 0 (suc n) i (f 0) refl h.each (omega arith) (omega arith) ∙ sym (list_at (suc n) f i (f 0) (omega arith)))
 
   -- ---- writing at places
 

@@ -1,12 +1,17 @@
 -- Stored numbers and zero places (document 01, "Amounts": "Stored numbers are little-endian").
 use Rattle.std.specs.Prelude.{ℕ, zero, suc, ◌+◌, ◌-◌, ◌*◌, ◌/◌, ◌%◌, Bool, ◌&&◌, cond, List, [], ◌∷◌, ◌++◌, eqb, leb, length, get_or, take, drop, replicate}
-use Rattle.encoding.specs.Each.{all_to, list_to}
+use Rattle.std.specs.List.{list_all}
+use Rattle.encoding.specs.Each.{list_to}
 
 -- the number that the first n bytes are, the lowest first; a byte that is missing counts as 0
 unfoldable pub le : ℕ → List ℕ → ℕ
 le zero s = 0
 le (suc n) [] = 0
 le (suc n) (b ∷ s) = b + 256 * le n s
+
+-- the first n bytes
+abbrev pub first_bytes : ℕ → List ℕ → List ℕ
+first_bytes n s = list_to n (λ i. get_or s i 0)
 
 -- n numbers of w bytes each, one after the other
 abbrev pub les : ℕ → ℕ → List ℕ → List ℕ
@@ -18,7 +23,7 @@ part from to s = take (to - from) (drop from s)
 
 -- each byte is zero
 abbrev pub all_zero : List ℕ → Bool
-all_zero s = all_to (length s) (λ i. eqb (get_or s i 0) 0)
+all_zero s = list_all (λ b. eqb b 0) s
 
 -- n bytes that store a number, the lowest first
 unfoldable pub little_endian : ℕ → ℕ → List ℕ

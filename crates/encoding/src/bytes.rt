@@ -1,85 +1,64 @@
 // Numbers and zero runs in bytes of any length. A byte that is missing counts as 0.
-ghost use Rattle.std.specs.Prelude.{◌≡◌, min, ◌<◌, drop, get_or};
-ghost use Rattle.encoding.specs.Bytes.{le, part, within, all_zero, placed};
+ghost use Rattle.std.specs.Prelude.{◌≡◌, drop, get_or};
+ghost use Rattle.encoding.specs.Bytes.{le, first_bytes, part, within, all_zero, placed};
 
-fn wide(x: u8) -> u16
-    ensures { (result ≡ x) × (result < 256) }
-{
-    x as u16
-}
+use std::array;
 
 pub fn byte_at(s: &[u8], at: usize) -> u8
     ensures { result ≡ get_or s.now at 0 }
 {
-    if at < s.len() { s[at] } else { 0 }
+    s.get(at).copied().unwrap_or(0)
 }
 
+// The bytes from a place on, N of them. Where all are there they are read in one piece: one by one, a post's numbers took twice as long.
+fn bytes_at<const N: usize>(s: &[u8], at: usize) -> [u8; N]
+    ensures { result ≡ first_bytes N (drop at s.now) }
+{
+    let rest = tail(s, at);
+    match rest.first_chunk() {
+        Some(whole) => *whole,
+        None => array::from_fn(|i| byte_at(rest, i)),
+    }
+}
+
+// A function for each width, since one for all would need a trait over the three `from_le_bytes`.
 pub fn le16(s: &[u8], at: usize) -> u16
     ensures { result ≡ le 2 (drop at s.now) }
 {
-    if at >= s.len() {
-        return 0;
-    }
-    wide(byte_at(s, at)) + wide(byte_at(s, at + 1)) * 256
+    u16::from_le_bytes(bytes_at(s, at))
 }
 
 pub fn le32(s: &[u8], at: usize) -> u32
     ensures { result ≡ le 4 (drop at s.now) }
 {
-    if at >= s.len() {
-        return 0;
-    }
-    let low = le16(s, at);
-    let high = le16(s, at + 2);
-    (low as u32) + (high as u32) * 65536
+    u32::from_le_bytes(bytes_at(s, at))
 }
 
 pub fn le64(s: &[u8], at: usize) -> u64
     ensures { result ≡ le 8 (drop at s.now) }
 {
-    if at >= s.len() {
-        return 0;
-    }
-    let low = le32(s, at);
-    let high = le32(s, at + 4);
-    (low as u64) + (high as u64) * 4294967296
+    u64::from_le_bytes(bytes_at(s, at))
 }
 
 pub fn all_zero(s: &[u8]) -> bool
     ensures { result ≡ all_zero s.now }
 {
-    let mut i = 0;
-    while i < s.len() {
-        if s[i] != 0 {
-            return false;
-        }
-        i += 1;
-    }
-    true
-}
-
-// The lower of two places.
-pub fn lower(a: usize, b: usize) -> usize
-    ensures { result ≡ min a b }
-{
-    if a < b { a } else { b }
+    s.iter().all(|b| *b == 0)
 }
 
 // The bytes from a place on, as far as there are bytes.
 pub fn tail(s: &[u8], at: usize) -> &[u8]
     ensures { result.now ≡ drop at s.now }
 {
-    let start = lower(at, s.len());
-    &s[start..]
+    &s[at.min(s.len())..]
 }
 
 // The bytes from one place up to another, as far as there are bytes.
 pub fn between(s: &[u8], from: usize, to: usize) -> &[u8]
     ensures { result.now ≡ part from to s.now }
 {
-    let end = lower(to, s.len());
-    let start = lower(from, end);
-    &s[start..end]
+    let end = to.min(s.len());
+    &s[from.min(end)..end]
 }
 
 pub fn zero_from(s: &[u8], at: usize) -> bool
@@ -97,25 +76,15 @@ pub fn zero_between(s: &[u8], from: usize, to: usize) -> bool
 pub fn is_within(low: u8, high: u8, n: u8) -> bool
     ensures { result ≡ within low high n }
 {
-    if n < low {
-        return false;
-    }
-    n <= high
+    (low..=high).contains(&n)
 }
 
 // The bytes at a place of the buffer, where they fit; all else stays.
+#[tactic(auto, using(crate::proofs::bytes::Placed::copied_in, crate::proofs::bytes::Placed::placed_out))]
 pub fn put(buffer: &mut [u8], at: usize, s: &[u8])
     ensures { buffer.new ≡ placed buffer.old at s.now }
 {
-    if s.len() > buffer.len() {
-        return;
-    }
-    if at > buffer.len() - s.len() {
-        return;
-    }
-    let mut i = 0;
-    while i < s.len() {
-        buffer[at + i] = s[i];
-        i += 1;
+    if s.len() <= buffer.len() && at <= buffer.len() - s.len() {
+        buffer[at..at + s.len()].copy_from_slice(s);
     }
 }

@@ -1,74 +1,60 @@
 // The return of a journal: reads the journal from standard input and prints the return.
 #![tactic(auto)]
 
-ghost use Rattle.book.specs.Site.{Sound};
+ghost use Rattle.std.specs.Prelude.{◌≡◌, IfOk, OnOk, IfSome, IsErrOf};
+ghost use Rattle.std.specs.Io.KnownBytes.{Appends};
+ghost use Rattle.streams.specs.Input.{bytes_left};
+ghost use Rattle.streams.specs.Output.{bytes_in};
+ghost use Rattle.journal.specs.Reading.{text_of, printed_of};
 
-use journal::reading;
 use journal::reading::Reading;
-use std::io::{Stderr, Stdin, Stdout};
-use streams::input::Part;
-use streams::{input, output, trouble};
-use text::writing::Written;
+use std::io;
+use std::io::{Read, Write};
+use streams::input::Input;
+use streams::output::Output;
+use streams::trouble::Trouble;
 
-// What was read up to the end of the input or to the first decline, or to a read that failed.
-#[derive(Clone, Copy)]
-struct Journal {
-    reading: Reading,
-    is_read: bool,
-}
-
-fn read_journal(stdin: Stdin) -> Journal
-    ensures { Sound result.reading.book }
+/// What was read up to the end of the input or to the first decline.
+#[tactic(auto, using(crate::proofs::Laws::prints_at_start, crate::proofs::Laws::prints_on, crate::proofs::Laws::prints_at_end, crate::proofs::Laws::prints_stopped))]
+fn read_journal<R: Read>(input: &mut Input<R>) -> io::Result<Reading>
+    ensures { IfOk result (λ reading. IfSome (bytes_left R.remaining input.old) (λ s. text_of reading ≡ printed_of s)) }
 {
-    let mut reading = reading::start();
-    let mut source = input::start(stdin);
-    let mut space = [0u8; 512];
-    while !reading::has_stopped(reading) {
-        let taken = input::read_part(source, &mut space);
-        source = taken.input;
-        let part = taken.part;
-        match part {
-            Part::End => {
-                return Journal {
-                    reading,
-                    is_read: true,
-                };
-            }
-            Part::Failed => {
-                return Journal {
-                    reading,
-                    is_read: false,
-                };
-            }
-            Part::Full | Part::Short(_) => {}
+    let mut reading = Reading::new();
+    let mut space = [0; 512];
+    while !reading.has_stopped() {
+        let n = input.read_part(&mut space)?;
+        if n == 0 {
+            return Ok(reading);
         }
-        reading = reading::feed(reading, input::held(part, &space));
+        reading.feed(&space[..n]);
     }
-    Journal {
-        reading,
-        is_read: true,
+    Ok(reading)
+}
+
+fn print<W: Write>(reading: &Reading, output: &mut Output<W>) -> io::Result<()>
+    ensures { OnOk result (Appends (bytes_in W.contents output.old) (bytes_in W.contents output.new) (text_of reading.now)) }
+{
+    let mut text = [0; 1336];
+    match reading.print(&mut text) {
+        Some(n) => output.write_all(&text[..n]),
+        None => Ok(()),
     }
 }
 
-// The text at the start of a buffer on standard output.
-fn show(stdout: Stdout, stderr: Stderr, out: &[u8], n: usize) {
-    if n <= out.len() {
-        let written = output::text(output::start(stdout), &out[..n]);
-        if output::has_failed(written) {
-            trouble::unwritten(stderr, b"filing");
-        }
-    }
+/// Prints the return of a journal; nothing where the journal can't be read.
+fn run<R: Read, W: Write>(input: &mut Input<R>, output: &mut Output<W>) -> Result<(), Trouble>
+    ensures printed { OnOk result (IfSome (bytes_left R.remaining input.old)
+        (λ s. Appends (bytes_in W.contents output.old) (bytes_in W.contents output.new) (printed_of s))) }
+    ensures unread { IsErrOf result Trouble.Unread → output.new ≡ output.old }
+{
+    let reading = read_journal(input).map_err(|_| Trouble::Unread)?;
+    print(&reading, output).map_err(|_| Trouble::Unwritten)
 }
 
 fn main(rt: HostRuntime) {
-    let journal = read_journal(rt.stdin());
-    if !journal.is_read {
-        trouble::unread(rt.stderr(), b"filing");
-        return;
-    }
-    let reading = journal.reading;
-    let mut out = [0u8; 1336];
-    if let Written::At(n) = reading::print(reading, &mut out) {
-        show(rt.stdout(), rt.stderr(), &out, n);
+    let mut input = Input::new(rt.stdin());
+    let mut output = Output::new(rt.stdout());
+    if let Err(trouble) = run(&mut input, &mut output) {
+        let _ = eprintln!(rt; "filing: {trouble}");
     }
 }

@@ -1,98 +1,66 @@
-// What a journal prints: fed one part of the input at a time to a state by value, or whole.
+// What a journal prints: fed one part of the input at a time, or whole.
 ghost use Rattle.std.specs.Prelude.{◌≡◌};
-ghost use Rattle.book.specs.Site.{Sound};
 ghost use Rattle.text.specs.Writing.{Tries};
-ghost use Rattle.journal.specs.Reading.{printed_of, started, fed, has_stopped, text_of, Advances};
+ghost use Rattle.journal.specs.Reading.{printed_of};
 
 use amounts::decline::Decline;
+use book::blocks::take_blocks;
 use book::site::Book;
-use book::{block, blocks, site};
-use layout::verdict::Verdict;
-use text::print;
-use text::writing::Written;
+use text::print::{print_refused, print_return};
 
-#[derive(Clone, Copy)]
-pub enum Stopped {
-    No,
-    By(Decline),
-}
-
-#[derive(Clone, Copy)]
+// A journal as far as it was fed: the book after the blocks that it took, and why the block after them was declined, if it was.
+#[derive(Drop)]
 pub struct Reading {
     book: Book,
-    stopped: Stopped,
+    stopped: Option<Decline>,
 }
 
-pub fn start() -> Reading
-    ensures value { result ≡ started }
-    ensures sound { Sound result.book }
-{
-    Reading {
-        book: site::fresh(),
-        stopped: Stopped::No,
+impl Reading {
+    ghost use Rattle.journal.specs.Reading.{started, fed, has_stopped, text_of, Advances};
+
+    pub fn new() -> Reading
+        ensures { result ≡ started }
+    {
+        Reading {
+            book: Book::new(),
+            stopped: None,
+        }
+    }
+
+    // One part more: 512 bytes, or a shorter last part. After a decline nothing changes.
+    pub fn feed(&mut self, part: &[u8])
+        ensures value { self.new ≡ fed self.old part.now }
+        ensures advances { Advances self.old self.new }
+    {
+        if self.stopped.is_none() {
+            self.stopped = self.book.take_block(part).err();
+        }
+    }
+
+    // Whether a part was declined, after which no other counts.
+    pub fn has_stopped(&self) -> bool
+        ensures { result ≡ has_stopped self.now }
+    {
+        self.stopped.is_some()
+    }
+
+    // What there is to print after the parts that were fed, at the start of a lent buffer where 1,336 bytes are free, and its length.
+    pub fn print(&self, out: &mut [u8]) -> Option<usize>
+        ensures { Tries 1336 out.old 0 (text_of self.now) out.new result }
+    {
+        match self.stopped {
+            None => print_return(&self.book, out),
+            Some(decline) => print_refused(self.book.block_number(), decline, out),
+        }
     }
 }
 
-// The state after one part more: 512 bytes, or a shorter last part. After a decline it stays.
-pub fn feed(r: Reading, part: &[u8]) -> Reading
-    requires { Sound r.book }
-    ensures value { result ≡ fed r part.now }
-    ensures sound { Sound result.book }
-    ensures advances { Advances r result }
-{
-    let stopped = r.stopped;
-    if let Stopped::By(_) = stopped {
-        return r;
-    }
-    let b = r.book;
-    let a = block::take_block(b, part);
-    let v = a.verdict;
-    let next = a.book;
-    match v {
-        Verdict::Accepted => Reading {
-            book: next,
-            stopped: Stopped::No,
-        },
-        Verdict::Declined(d) => Reading {
-            book: next,
-            stopped: Stopped::By(d),
-        },
-    }
-}
-
-// Whether a part was declined, after which no other counts.
-pub fn has_stopped(r: Reading) -> bool
-    ensures { result ≡ has_stopped r }
-{
-    let stopped = r.stopped;
-    match stopped {
-        Stopped::No => false,
-        Stopped::By(_) => true,
-    }
-}
-
-// What there is to print after the parts that were fed, at the start of a lent buffer where 1,336 bytes are free.
-pub fn print(r: Reading, out: &mut [u8]) -> Written
-    requires { Sound r.book }
-    ensures { Tries 1336 out.old 0 (text_of r) out.new result }
-{
-    let b = r.book;
-    let stopped = r.stopped;
-    match stopped {
-        Stopped::No => print::print_return(b, out),
-        Stopped::By(d) => print::print_refused(site::block_number(b), d.number, out),
-    }
-}
-
-// What a whole journal in memory prints, where as many bytes are free.
-pub fn print_journal(journal: &[u8], out: &mut [u8]) -> Written
+// What a whole journal in memory prints, where as many bytes are free, and its length.
+pub fn print_journal(journal: &[u8], out: &mut [u8]) -> Option<usize>
     ensures { Tries 1336 out.old 0 (printed_of journal.now) out.new result }
 {
-    let end = blocks::take_blocks(journal);
-    let v = end.verdict;
-    let b = end.book;
-    match v {
-        Verdict::Accepted => print::print_return(b, out),
-        Verdict::Declined(d) => print::print_refused(end.place, d.number, out),
+    match take_blocks(journal) {
+        Ok(book) => print_return(&book, out),
+        Err(refused) => print_refused(refused.place, refused.decline, out),
     }
 }

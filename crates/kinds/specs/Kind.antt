@@ -1,28 +1,30 @@
 -- The kinds of posts (document 01, "Posts"; document 02, (b)): one row for each.
-use Rattle.std.specs.Prelude.{ℕ, ◌+◌, ◌*◌, ◌^◌, Bool, true, false, ◌&&◌, List, [], ◌∷◌, eqb, leb, ltb}
-use Rattle.amounts.specs.Decline.{Answer, taken, declined, layout}
+use Rattle.std.specs.Prelude.{ℕ, ◌+◌, ◌*◌, ◌^◌, Bool, true, false, ◌&&◌, List, [], ◌∷◌, eqb, leb, ltb, Ok, Err}
+use Rattle.amounts.specs.Decline.{Answer}
+use Rattle.amounts.specs.declared.decline.Decline.TheVariants.{Layout}
 use Rattle.layout.specs.declared.outline.Outline.{Outline}
-use Rattle.kinds.specs.Account.{held, shipped, off_site, landfill, soil, consumed, gas, water, vapour}
+use Rattle.kinds.specs.declared.account.Account.TheVariants.{Held, Shipped, OffSite, Landfill, Soil, Consumed, Gas, Water, Vapour}
 use Rattle.kinds.specs.declared.fields.Post.{Post}
 use Rattle.kinds.specs.declared.kind.Does.{Does}
 use Rattle.kinds.specs.declared.kind.Does.TheVariants.{Receives, Issues, Brings, Leaves, Closes}
 use Rattle.kinds.specs.declared.kind.Kind.{Kind}
-use Rattle.kinds.specs.declared.kind.KindRead.{KindRead}
-use Rattle.kinds.specs.declared.kind.KindRead.TheVariants as read
 use Rattle.kinds.specs.declared.kind.Limits.{Limits}
 use Rattle.kinds.specs.declared.kind.Measure.{Measure}
 use Rattle.kinds.specs.declared.kind.Measure.TheVariants.{Quantity, Content, Loss}
-use Rattle.kinds.specs.declared.kind.Span.{Span}
+use Rattle.std.specs.declared.ops.Range.{Range}
 
 -- ---- limits
+
+abbrev pub Span : Type 0
+Span = Range ℕ
 
 -- the numbers from one up to another, which is not among them
 infix 20 ◌up_to◌
 abbrev pub ◌up_to◌ : ℕ → ℕ → Span
-from up_to end = record { from = from; end = end }
+from up_to end = record { start = from; end = end }
 
 abbrev pub in_span : Span → ℕ → Bool
-in_span span n = leb span.from n && ltb n span.end
+in_span span n = leb span.start n && ltb n span.end
 
 -- "A field that a kind doesn't use is zero"
 abbrev pub unused : Span
@@ -97,26 +99,26 @@ rows =
     row 1 of_stock Quantity Receives
     ∷ row 2 of_stock Quantity Receives
     ∷ row 3 of_issue Quantity Issues
-    ∷ row 4 of_micrograms Quantity (Brings held)
-    ∷ row 5 of_content Content (Leaves shipped)
-    ∷ row 6 of_content Content (Leaves off_site)
-    ∷ row 7 of_content Content (Leaves landfill)
-    ∷ row 8 of_content Content (Leaves soil)
-    ∷ row 9 of_content Content (Leaves consumed)
-    ∷ row 10 of_content Content (Leaves gas)
-    ∷ row 11 of_content Content (Leaves water)
-    ∷ row 12 of_form Loss (Leaves vapour)
+    ∷ row 4 of_micrograms Quantity (Brings Held)
+    ∷ row 5 of_content Content (Leaves Shipped)
+    ∷ row 6 of_content Content (Leaves OffSite)
+    ∷ row 7 of_content Content (Leaves Landfill)
+    ∷ row 8 of_content Content (Leaves Soil)
+    ∷ row 9 of_content Content (Leaves Consumed)
+    ∷ row 10 of_content Content (Leaves Gas)
+    ∷ row 11 of_content Content (Leaves Water)
+    ∷ row 12 of_form Loss (Leaves Vapour)
     ∷ row 13 of_nothing Quantity Closes
-    ∷ row 14 of_content Content (Brings off_site)
+    ∷ row 14 of_content Content (Brings OffSite)
     ∷ []
 
 abbrev pub row_if : Bool → Row → Answer Row → Answer Row
-row_if true r other = taken r
+row_if true r other = Ok r
 row_if false r other = other
 
 -- the row of a number; "A length, kind, .. breaks the layout": a kind that has no row is a 6
 unfoldable pub find : ℕ → List Row → Answer Row
-find n [] = declined layout
+find n [] = Err Layout
 find n (r ∷ rs) = row_if (eqb r.number n) r (find n rs)
 
 unfoldable pub kind_of : ℕ → Answer Row
@@ -129,10 +131,5 @@ abbrev pub kind_at : Outline → Row → Kind
 kind_at o r = record { limits = r.limits o; measure = r.measure; does = r.does }
 
 abbrev pub limited : Outline → Answer Row → Answer Kind
-limited o (taken r) = taken (kind_at o r)
-limited o (declined n) = declined n
-
--- what each case of the code's answer stands for
-abbrev pub answer : KindRead → Answer Kind
-answer (read.Known k) = taken k
-answer (read.Declined d) = declined d.number
+limited o (Ok r) = Ok (kind_at o r)
+limited o (Err n) = Err n

@@ -5,7 +5,7 @@ ghost use Rattle.kinds.specs.Fields.{post_at};
 use encoding::bytes;
 
 // Floats are kept as bit patterns. In kind 12 the form stands in the material's place.
-#[derive(Clone, Copy)]
+#[derive(Clone, Copy, Debug, PartialEq, Eq)]
 pub struct Post {
     pub kind: u8,
     pub material: u8,
@@ -19,6 +19,7 @@ pub struct Post {
     pub q: u64,
 }
 
+#[tactic(auto, unfolding(crate::specs::Fields::post_at))]
 pub fn decode(s: &[u8]) -> Post
     ensures { result ≡ post_at s.now }
 {

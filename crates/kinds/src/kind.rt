@@ -1,230 +1,170 @@
 // The kinds of posts: one row for each, with the limits of its fields, how its amount is measured, and what it does.
 ghost use Rattle.std.specs.Prelude.{◌≡◌};
-ghost use Rattle.kinds.specs.Kind.{in_span, fields_fit, kind_of, limited, answer, of_stock, of_issue, of_micrograms, of_content, of_form};
-ghost use Rattle.kinds.specs.declared.kind.Does.TheVariants.{Receives, Issues, Brings, Leaves, Closes};
-ghost use Rattle.kinds.specs.declared.kind.Measure.TheVariants.{Quantity, Content, Loss};
-ghost use Rattle.kinds.specs.Account.{held, vapour};
+ghost use Rattle.kinds.specs.Kind.{fields_fit, kind_of, limited, below, of_stock, of_issue, of_micrograms, of_content, of_form};
 
-use crate::account::{CONSUMED, GAS, HELD, LANDFILL, OFF_SITE, SHIPPED, SOIL, VAPOUR, WATER};
+use crate::account::Account;
 use crate::fields::Post;
-use amounts::decline;
 use amounts::decline::Decline;
 use layout::outline::Outline;
+use std::ops::Range;
 
-// The numbers from one up to another, which is not among them.
-#[derive(Clone, Copy)]
-pub struct Span {
-    pub from: u64,
-    pub end: u64,
-}
-
-#[derive(Clone, Copy)]
+// What a post's fields may be.
+#[derive(Drop)]
 pub struct Limits {
-    pub material: Span,
-    pub stage: Span,
-    pub substance: Span,
-    pub content: Span,
-    pub quantity: Span,
+    pub material: Range<u64>,
+    pub stage: Range<u64>,
+    pub substance: Range<u64>,
+    pub content: Range<u64>,
+    pub quantity: Range<u64>,
 }
 
 // How a kind's amount is had: its quantity as stated, its quantity times its content, or the loss of its floats.
-#[derive(Clone, Copy)]
+#[derive(Clone, Copy, Debug, PartialEq, Eq)]
 pub enum Measure {
     Quantity,
     Content,
     Loss,
 }
 
-// What a kind does with its amount; an account is named by its number.
-#[derive(Clone, Copy)]
+// What a kind does with its amount.
+#[derive(Clone, Copy, Debug, PartialEq, Eq)]
 pub enum Does {
     Receives,
     Issues,
-    Brings(usize),
-    Leaves(usize),
+    Brings(Account),
+    Leaves(Account),
     Closes,
 }
 
-#[derive(Clone, Copy)]
+#[derive(Drop)]
 pub struct Kind {
     pub limits: Limits,
     pub measure: Measure,
     pub does: Does,
 }
 
-#[derive(Clone, Copy)]
-pub enum KindRead {
-    Known(Kind),
-    Declined(Decline),
-}
+const UNUSED: Range<u64> = 0..1;
 
-const UNUSED: Span = Span { from: 0, end: 1 };
+const FORMS: Range<u64> = 1..4;
 
-const FORM: Span = Span { from: 1, end: 4 };
+const CONTENTS: Range<u64> = 1..1_000_001;
 
-const CONTENT: Span = Span {
-    from: 1,
-    end: 1_000_001,
+const GRAMS: Range<u64> = 1..2_000_000_001;
+
+const MICROGRAMS: Range<u64> = 1..2_000_000_000_000_001;
+
+// A kind that uses no field.
+const OF_NOTHING: Limits = Limits {
+    material: UNUSED,
+    stage: UNUSED,
+    substance: UNUSED,
+    content: UNUSED,
+    quantity: UNUSED,
 };
 
-const GRAMS: Span = Span {
-    from: 1,
-    end: 2_000_000_001,
-};
-
-const MICROGRAMS: Span = Span {
-    from: 1,
-    end: 2_000_000_000_000_001,
-};
-
-fn below(count: u8) -> Span
-    ensures { result ≡ record { from = 0; end = count } }
+fn below(count: u8) -> Range<u64>
+    ensures { result ≡ below count }
 {
-    Span {
-        from: 0,
-        end: count as u64,
+    0..u64::from(count)
+}
+
+fn of_stock(o: Outline) -> Limits
+    ensures { result ≡ of_stock o }
+{
+    Limits {
+        material: below(o.materials),
+        quantity: GRAMS,
+        ..OF_NOTHING
     }
 }
 
-fn received(o: Outline) -> Kind
-    ensures { result ≡ record { limits = of_stock o; measure = Quantity; does = Receives } }
+fn of_issue(o: Outline) -> Limits
+    ensures { result ≡ of_issue o }
 {
-    Kind {
-        limits: Limits {
-            material: below(o.materials),
-            stage: UNUSED,
-            substance: UNUSED,
-            content: UNUSED,
-            quantity: GRAMS,
-        },
-        measure: Measure::Quantity,
-        does: Does::Receives,
+    Limits {
+        material: below(o.materials),
+        stage: below(o.stages),
+        quantity: GRAMS,
+        ..OF_NOTHING
     }
 }
 
-fn issued(o: Outline) -> Kind
-    ensures { result ≡ record { limits = of_issue o; measure = Quantity; does = Issues } }
+fn of_micrograms(o: Outline) -> Limits
+    ensures { result ≡ of_micrograms o }
 {
-    Kind {
-        limits: Limits {
-            material: below(o.materials),
-            stage: below(o.stages),
-            substance: UNUSED,
-            content: UNUSED,
-            quantity: GRAMS,
-        },
-        measure: Measure::Quantity,
-        does: Does::Issues,
+    Limits {
+        stage: below(o.stages),
+        substance: below(o.substances),
+        quantity: MICROGRAMS,
+        ..OF_NOTHING
     }
 }
 
-fn formed(o: Outline) -> Kind
-    ensures { result ≡ record { limits = of_micrograms o; measure = Quantity; does = Brings held } }
+fn of_content(o: Outline) -> Limits
+    ensures { result ≡ of_content o }
 {
-    Kind {
-        limits: Limits {
-            material: UNUSED,
-            stage: below(o.stages),
-            substance: below(o.substances),
-            content: UNUSED,
-            quantity: MICROGRAMS,
-        },
-        measure: Measure::Quantity,
-        does: Does::Brings(HELD),
+    Limits {
+        stage: below(o.stages),
+        substance: below(o.substances),
+        content: CONTENTS,
+        quantity: GRAMS,
+        ..OF_NOTHING
     }
 }
 
-fn stated(o: Outline, does: Does) -> Kind
-    ensures { result ≡ record { limits = of_content o; measure = Content; does = does } }
+fn of_form(o: Outline) -> Limits
+    ensures { result ≡ of_form o }
 {
-    Kind {
-        limits: Limits {
-            material: UNUSED,
-            stage: below(o.stages),
-            substance: below(o.substances),
-            content: CONTENT,
-            quantity: GRAMS,
-        },
-        measure: Measure::Content,
+    Limits {
+        material: FORMS,
+        stage: below(o.stages),
+        substance: below(o.substances),
+        ..OF_NOTHING
+    }
+}
+
+// The row of a kind, by the number that a post has of it and with its limits by an outline. One that has none is outside the layout.
+#[tactic(auto, unfolding(crate::specs::Kind::kind_of, crate::specs::Kind::find, crate::specs::Kind::rows))]
+pub fn kind_of(o: Outline, number: u8) -> Result<Kind, Decline>
+    ensures { result ≡ limited o (kind_of number) }
+{
+    use Does::{Brings, Closes, Issues, Leaves, Receives};
+    use Measure::{Content, Loss, Quantity};
+
+    let (limits, measure, does) = match number {
+        // An arm each, as each has its row; one arm for both was measured slower.
+        1 => (of_stock(o), Quantity, Receives),
+        2 => (of_stock(o), Quantity, Receives),
+        3 => (of_issue(o), Quantity, Issues),
+        4 => (of_micrograms(o), Quantity, Brings(Account::Held)),
+        5 => (of_content(o), Content, Leaves(Account::Shipped)),
+        6 => (of_content(o), Content, Leaves(Account::OffSite)),
+        7 => (of_content(o), Content, Leaves(Account::Landfill)),
+        8 => (of_content(o), Content, Leaves(Account::Soil)),
+        9 => (of_content(o), Content, Leaves(Account::Consumed)),
+        10 => (of_content(o), Content, Leaves(Account::Gas)),
+        11 => (of_content(o), Content, Leaves(Account::Water)),
+        12 => (of_form(o), Loss, Leaves(Account::Vapour)),
+        13 => (OF_NOTHING, Quantity, Closes),
+        14 => (of_content(o), Content, Brings(Account::OffSite)),
+        _ => return Err(Decline::Layout),
+    };
+    Ok(Kind {
+        limits,
+        measure,
         does,
-    }
+    })
 }
 
-fn evaporated(o: Outline) -> Kind
-    ensures { result ≡ record { limits = of_form o; measure = Loss; does = Leaves vapour } }
-{
-    Kind {
-        limits: Limits {
-            material: FORM,
-            stage: below(o.stages),
-            substance: below(o.substances),
-            content: UNUSED,
-            quantity: UNUSED,
-        },
-        measure: Measure::Loss,
-        does: Does::Leaves(VAPOUR),
+impl Limits {
+    // Whether each field is within its limits.
+    pub fn admit(&self, post: &Post) -> bool
+        ensures { result ≡ fields_fit self.now post.now }
+    {
+        self.material.contains(&u64::from(post.material))
+            && self.stage.contains(&u64::from(post.stage))
+            && self.substance.contains(&u64::from(post.substance))
+            && self.content.contains(&u64::from(post.content))
+            && self.quantity.contains(&post.quantity)
     }
-}
-
-const CLOSING: Kind = Kind {
-    limits: Limits {
-        material: UNUSED,
-        stage: UNUSED,
-        substance: UNUSED,
-        content: UNUSED,
-        quantity: UNUSED,
-    },
-    measure: Measure::Quantity,
-    does: Does::Closes,
-};
-
-// The row of a kind, its limits by an outline. A kind that has none is outside the layout.
-pub fn kind_of(o: Outline, number: u8) -> KindRead
-    ensures { answer result ≡ limited o (kind_of number) }
-{
-    match number {
-        1 => KindRead::Known(received(o)),
-        2 => KindRead::Known(received(o)),
-        3 => KindRead::Known(issued(o)),
-        4 => KindRead::Known(formed(o)),
-        5 => KindRead::Known(stated(o, Does::Leaves(SHIPPED))),
-        6 => KindRead::Known(stated(o, Does::Leaves(OFF_SITE))),
-        7 => KindRead::Known(stated(o, Does::Leaves(LANDFILL))),
-        8 => KindRead::Known(stated(o, Does::Leaves(SOIL))),
-        9 => KindRead::Known(stated(o, Does::Leaves(CONSUMED))),
-        10 => KindRead::Known(stated(o, Does::Leaves(GAS))),
-        11 => KindRead::Known(stated(o, Does::Leaves(WATER))),
-        12 => KindRead::Known(evaporated(o)),
-        13 => KindRead::Known(CLOSING),
-        14 => KindRead::Known(stated(o, Does::Brings(OFF_SITE))),
-        _ => KindRead::Declined(decline::LAYOUT),
-    }
-}
-
-fn is_in(span: Span, n: u64) -> bool
-    ensures { result ≡ in_span span n }
-{
-    if n < span.from {
-        return false;
-    }
-    n < span.end
-}
-
-// Whether each field is within its limits.
-pub fn fields_fit(l: Limits, p: Post) -> bool
-    ensures { result ≡ fields_fit l p }
-{
-    if !is_in(l.material, p.material as u64) {
-        return false;
-    }
-    if !is_in(l.stage, p.stage as u64) {
-        return false;
-    }
-    if !is_in(l.substance, p.substance as u64) {
-        return false;
-    }
-    if !is_in(l.content, p.content as u64) {
-        return false;
-    }
-    is_in(l.quantity, p.quantity)
 }

@@ -2,20 +2,19 @@
 use mathlib.Core.Path.{◌≡◌, refl}
 use mathlib.Core.Bool.{true, false}
 use mathlib.Core.List.{List, [], ◌∷◌, ◌++◌}
-use Prim.Native.Nat.{ℕ}
-use native.Mathlib.Omega.{arith}
-use Rattle.amounts.specs.Decline.{taken, Check, check, checked}
+use Rattle.std.specs.Prelude.{Ok}
+use Rattle.amounts.specs.Decline.{Answer, Check, check, checked, on_taken}
 
 abbrev pub AllPass : List Check → Type 0
 AllPass [] = Unit
 AllPass (check t n ∷ rows) = (t ≡ true) × AllPass rows
 
 -- a table that takes has passed each check, and takes what it was given
-pub passed : {A : Type 0} (rows : List Check) (a b : A) → checked rows a ≡ taken b → AllPass rows × (b ≡ a)
+pub passed : {A : Type 0} (rows : List Check) (a b : A) → checked rows a ≡ Ok b → AllPass rows × (b ≡ a)
 unfolding checked
 passed [] a b e = (tt, cc)
 passed (check true n ∷ rows) a b e = let z = passed rows a b e in ((refl, z.0), z.1)
-passed (check false n ∷ rows) a b e = let z : ◌≡◌ {A = ℕ} 0 1 = cc in absurd (omega arith)
+passed (check false n ∷ rows) a b e = cc
 
 -- a table after another passes as both do
 pub pass_both : (xs ys : List Check) → AllPass (xs ++ ys) → AllPass xs × AllPass ys
@@ -23,7 +22,14 @@ pass_both [] ys h = (tt, h)
 pass_both (check t n ∷ xs) ys h = let r = pass_both xs ys h.1 in ((h.0, r.0), r.1)
 
 -- a table that passes takes
-pub pass_taken : {A : Type 0} (rows : List Check) (a : A) → AllPass rows → checked rows a ≡ taken a
+pub pass_taken : {A : Type 0} (rows : List Check) (a : A) → AllPass rows → checked rows a ≡ Ok a
 unfolding checked
 pass_taken [] a h = refl
 pass_taken (check t n ∷ rows) a h = rw h.0 (pass_taken rows a h.1)
+
+-- what follows a table is the same over any other value that it guards
+pub guards : {A B C : Type 0} (rows : List Check) (a : A) (b : B) (next : A → Answer C) → on_taken (checked rows a) next ≡ on_taken (checked rows b) (λ u. next a)
+unfolding checked
+guards [] a b next = refl
+guards (check true n ∷ rows) a b next = guards rows a b next
+guards (check false n ∷ rows) a b next = refl

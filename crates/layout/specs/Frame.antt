@@ -1,7 +1,8 @@
 -- A block's frame (document 01, "Journal blocks" and "Why a call is declined, in checking order"): its tag, check sums, kind and number.
-use Rattle.std.specs.Prelude.{ℕ, ◌+◌, ◌*◌, ◌%◌, Bool, ◌&&◌, List, [], ◌∷◌, ◌++◌, eqb, length, get_or, take, drop}
-use Rattle.amounts.specs.Decline as number
+use Rattle.std.specs.Prelude.{ℕ, ◌+◌, ◌*◌, ◌%◌, Bool, codes, List, [], ◌∷◌, ◌++◌, eqb, length, get_or, take, drop}
+use Rattle.std.specs.List.{starts_with}
 use Rattle.amounts.specs.Decline.{Answer, Check, check, checked, on_taken, is_taken}
+use Rattle.amounts.specs.declared.decline.Decline.TheVariants.{NotABlock, CheckSum, NotNext}
 use Rattle.encoding.specs.Bytes.{le, part, little_endian}
 use Rattle.encoding.specs.Each.{sum_to}
 use Rattle.layout.specs.Holds.{holds_of}
@@ -10,7 +11,7 @@ use Rattle.layout.specs.declared.holds.Holds.{Holds}
 
 -- "0–3 "PRTR" in ASCII; 4 kind; 5 count; 6–7 blocks accepted so far; 8–507 body"
 abbrev pub has_tag : List ℕ → Bool
-has_tag s = eqb (get_or s 0 0) 80 && (eqb (get_or s 1 0) 82 && (eqb (get_or s 2 0) 84 && eqb (get_or s 3 0) 82))
+has_tag s = starts_with eqb s (codes "PRTR")
 
 abbrev pub block_kind : List ℕ → ℕ
 block_kind s = get_or s 4 0
@@ -36,12 +37,12 @@ sums_of s = record { plain = plain_sum (take 508 s); weighted = weighted_sum (ta
 -- 1 to 3
 abbrev pub frame_checks : ℕ → List ℕ → List Check
 frame_checks blocks s =
-    check (eqb (length s) 512) number.not_a_block
-    ∷ check (has_tag s) number.not_a_block
-    ∷ check (eqb (le 2 (drop 508 s)) (sums_of s).plain) number.check_sum
-    ∷ check (eqb (le 2 (drop 510 s)) (sums_of s).weighted) number.check_sum
-    ∷ check (is_taken (holds_of (block_kind s))) number.not_next
-    ∷ check (eqb (le 2 (drop 6 s)) blocks) number.not_next
+    check (eqb (length s) 512) NotABlock
+    ∷ check (has_tag s) NotABlock
+    ∷ check (eqb (le 2 (drop 508 s)) (sums_of s).plain) CheckSum
+    ∷ check (eqb (le 2 (drop 510 s)) (sums_of s).weighted) CheckSum
+    ∷ check (is_taken (holds_of (block_kind s))) NotNext
+    ∷ check (eqb (le 2 (drop 6 s)) blocks) NotNext
     ∷ []
 
 -- what a block that passes them holds

@@ -1,47 +1,42 @@
 // What a block holds, by its kind: a part of the set-up, or posts.
 ghost use Rattle.std.specs.Prelude.{◌≡◌};
 ghost use Rattle.amounts.specs.Decline.{is_taken};
-ghost use Rattle.layout.specs.Holds.{holds_of, answer};
+ghost use Rattle.layout.specs.Holds.{holds_of};
 
-use amounts::decline;
 use amounts::decline::Decline;
 
 // The substances and materials, or a stage.
-#[derive(Clone, Copy)]
+#[derive(Clone, Copy, Debug, PartialEq, Eq)]
 pub enum SetupPart {
     Materials,
     Stage,
 }
 
-#[derive(Clone, Copy)]
+#[derive(Clone, Copy, Debug, PartialEq, Eq)]
 pub enum Holds {
     SetUp(SetupPart),
     Posts,
 }
 
-#[derive(Clone, Copy)]
-pub enum HoldsRead {
-    Known(Holds),
-    Declined(Decline),
-}
-
 // What a block of a kind holds. A kind that has no row is never the next.
-pub fn holds_of(kind: u8) -> HoldsRead
-    ensures { answer result ≡ holds_of kind }
-{
-    match kind {
-        1 => HoldsRead::Known(Holds::SetUp(SetupPart::Materials)),
-        2 => HoldsRead::Known(Holds::SetUp(SetupPart::Stage)),
-        3 => HoldsRead::Known(Holds::Posts),
-        _ => HoldsRead::Declined(decline::NOT_NEXT),
+impl TryFrom<u8> for Holds {
+    type Error = Decline;
+
+    ghost try_from_gives = { λ kind r. r ≡ holds_of kind };
+
+    #[tactic(auto, unfolding(crate::specs::Holds::holds_of, crate::specs::Holds::find, crate::specs::Holds::rows))]
+    fn try_from(kind: u8) -> Result<Holds, Decline> {
+        match kind {
+            1 => Ok(Holds::SetUp(SetupPart::Materials)),
+            2 => Ok(Holds::SetUp(SetupPart::Stage)),
+            3 => Ok(Holds::Posts),
+            _ => Err(Decline::NotNext),
+        }
     }
 }
 
 pub fn is_kind(kind: u8) -> bool
     ensures { result ≡ is_taken (holds_of kind) }
 {
-    match holds_of(kind) {
-        HoldsRead::Known(_) => true,
-        HoldsRead::Declined(_) => false,
-    }
+    Holds::try_from(kind).is_ok()
 }

@@ -5,4 +5,3 @@ pub mod frame;
 pub mod holds;
 pub mod outline;
 pub mod posts;
-pub mod verdict;

@@ -2,7 +2,7 @@
 ghost use Rattle.std.specs.Prelude.{◌≡◌};
 ghost use Rattle.layout.specs.Outline.{fresh_outline, may_set_up, may_describe, may_post};
 
-#[derive(Clone, Copy)]
+#[derive(Clone, Copy, Debug, Default, PartialEq, Eq)]
 pub struct Outline {
     pub substances: u8,
     pub materials: u8,
@@ -13,12 +13,7 @@ pub struct Outline {
 pub fn fresh() -> Outline
     ensures { result ≡ fresh_outline }
 {
-    Outline {
-        substances: 0,
-        materials: 0,
-        stages: 0,
-        described: 0,
-    }
+    Outline::default()
 }
 
 pub fn may_set_up(o: Outline) -> bool
@@ -30,17 +25,11 @@ pub fn may_set_up(o: Outline) -> bool
 pub fn may_describe(o: Outline, stage: u8) -> bool
     ensures { result ≡ may_describe o stage }
 {
-    if o.described >= o.stages {
-        return false;
-    }
-    stage == o.described
+    o.described < o.stages && stage == o.described
 }
 
 pub fn may_post(o: Outline) -> bool
     ensures { result ≡ may_post o }
 {
-    if o.substances == 0 {
-        return false;
-    }
-    o.described == o.stages
+    o.substances != 0 && o.described == o.stages
 }

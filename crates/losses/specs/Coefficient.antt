@@ -1,10 +1,10 @@
 -- The coefficient rows (document 01, "Vapour losses"; document 000, tables 2.3 and 2.4; numbers from document 004).
-use Rattle.std.specs.Prelude.{ℕ, Bool, true, false, List, [], ◌∷◌, ◌==◌, Float}
+use Rattle.std.specs.Prelude.{ℕ, Bool, true, false, List, [], ◌∷◌, ◌==◌, Float, Ok, Err}
 use Rattle.forms.specs.Binary64.{decimal}
-use Rattle.amounts.specs.Decline.{Answer, taken, declined, no_row}
+use Rattle.amounts.specs.Decline.{Answer}
+use Rattle.amounts.specs.declared.decline.Decline.TheVariants.{NoRow}
 use Rattle.losses.specs.declared.coefficient.CoefficientRow.{CoefficientRow}
 use Rattle.losses.specs.declared.coefficient.Entry.{Entry}
-use Rattle.losses.specs.declared.coefficient.RowRead.{RowRead}
 
 abbrev pub entry : ℕ → Float → Float → Entry
 entry n k m = record { number = n; row = record { k = k; m = m } }
@@ -20,18 +20,14 @@ rows =
     ∷ []
 
 abbrev pub row_if : Bool → CoefficientRow → Answer CoefficientRow → Answer CoefficientRow
-row_if true row other = taken row
+row_if true row other = Ok row
 row_if false row other = other
 
 -- the row of a number, or decline 8
 unfoldable pub find : ℕ → List Entry → Answer CoefficientRow
-find n [] = declined no_row
+find n [] = Err NoRow
 find n (e ∷ es) = row_if (e.number == n) e.row (find n es)
 
 unfoldable pub row_of : ℕ → Answer CoefficientRow
 unfolding find rows
 row_of n = find n rows
-
--- what the code's answer stands for: a row where one is known, decline 8 otherwise
-unfoldable pub answer : RowRead → Answer CoefficientRow
-answer f = row_if (f.known == 1) f.row (declined no_row)

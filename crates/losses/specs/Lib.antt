@@ -1,4 +1,3 @@
 pub mod Coefficient
 pub mod Whole
 pub mod Loss
-pub mod Steps

@@ -1,16 +1,15 @@
 -- Vapour losses (document 01, "Vapour losses"): "operations are f64, each rounded once, in the order bracketed".
-use Rattle.std.specs.Prelude.{ℕ, ◌^◌, cond, [], ◌∷◌, nat_le, Float}
+use Rattle.std.specs.Prelude.{ℕ, ◌^◌, cond, [], ◌∷◌, nat_le, Float, Ok, Err}
 use Rattle.std.specs.Float.Ieee.{le}
 use Rattle.forms.specs.Binary64.{decimal, whole, ◌⊗◌, ◌⊘◌, ◌⊕◌}
 use Rattle.losses.specs.Coefficient.{row_of}
-use Rattle.amounts.specs.Decline.{Answer, taken, declined, check, checked, on_taken, layout, excess}
+use Rattle.amounts.specs.Decline.{Answer, check, checked, on_taken}
+use Rattle.amounts.specs.declared.decline.Decline.TheVariants.{Layout, Excess}
 use Rattle.forms.specs.Form.{form_of}
 use Rattle.losses.specs.Whole.{whole_part}
 use Rattle.losses.specs.declared.coefficient.CoefficientRow.{CoefficientRow}
 use Rattle.forms.specs.declared.form.LossForm.{LossForm}
 use Rattle.forms.specs.declared.form.LossForm.TheVariants.{FloatingRoof, FixedRoof, Station}
-use Rattle.losses.specs.declared.loss.Loss as loss
-use Rattle.losses.specs.declared.loss.Loss.TheVariants.{Micrograms, Declined}
 
 -- form 1, floating roof (document 000, table 2.2): "((((k × (4 / w)) × M) / 22.4) × (u / 100)) × p"
 unfoldable pub floating_roof_kg : CoefficientRow → Float → Float → Float → Float
@@ -26,9 +25,9 @@ station_kg w u p q = (w ⊗ u) ⊕ (p ⊗ q)
 
 -- 8: form 1 or 2 without a coefficient row
 abbrev pub kg_of : LossForm → Answer CoefficientRow → Answer Float
-kg_of (FloatingRoof w u p) found = on_taken found (λ row. taken (floating_roof_kg row w u p))
-kg_of (FixedRoof w u p q) found = on_taken found (λ row. taken (fixed_roof_kg row w u p q))
-kg_of (Station w u p q) found = taken (station_kg w u p q)
+kg_of (FloatingRoof w u p) found = on_taken found (λ row. Ok (floating_roof_kg row w u p))
+kg_of (FixedRoof w u p q) found = on_taken found (λ row. Ok (fixed_roof_kg row w u p q))
+kg_of (Station w u p q) found = Ok (station_kg w u p q)
 
 -- "The loss in micrograms is kg × 10^9, one more rounding, without its fraction"
 abbrev pub micrograms_of : Float → ℕ
@@ -37,7 +36,7 @@ micrograms_of x = whole_part (x ⊗ whole (10 ^ 9))
 -- 9: the loss exceeds 2,000,000 kg
 unfoldable pub limited_of : Float → Answer ℕ
 unfolding checked
-limited_of x = checked (check (le x (whole 2000000)) excess ∷ []) (micrograms_of x)
+limited_of x = checked (check (le x (whole 2000000)) Excess ∷ []) (micrograms_of x)
 
 -- a form's loss over the row found for its substance
 unfoldable pub loss_of : LossForm → Answer CoefficientRow → Answer ℕ
@@ -52,9 +51,4 @@ loss_over form found w u p q = on_taken (form_of form w u p q) (λ f. loss_of f 
 -- a loss called alone: "declines a form .. or other whole number outside this paper's limits by 6"
 unfoldable pub vapour_of : ℕ → ℕ → Float → Float → Float → Float → Answer ℕ
 unfolding loss_over
-vapour_of form number w u p q = cond (nat_le 1 number) (loss_over form (row_of number) w u p q) (declined layout)
-
--- what each case of the code's answer stands for
-abbrev pub answer : loss.Loss → Answer ℕ
-answer (Micrograms n) = taken n
-answer (Declined d) = declined d.number
+vapour_of form number w u p q = cond (nat_le 1 number) (loss_over form (row_of number) w u p q) (Err Layout)

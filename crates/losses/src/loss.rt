@@ -1,41 +1,30 @@
 // Vapour losses in kg and in micrograms.
 ghost use Rattle.std.specs.Prelude.{◌≡◌, Float};
 ghost use Rattle.forms.specs.Binary64.{value_of};
-ghost use Rattle.losses.specs.Coefficient as coefficients;
-ghost use Rattle.losses.specs.Loss.{floating_roof_kg, fixed_roof_kg, station_kg, kg_of, limited_of, loss_of, loss_over, vapour_of, answer};
-ghost use Rattle.losses.specs.Steps.{kg_answer};
+ghost use Rattle.losses.specs.Coefficient.{row_of};
+ghost use Rattle.losses.specs.Loss.{floating_roof_kg, fixed_roof_kg, station_kg, kg_of, limited_of, loss_of, loss_over, vapour_of};
 
-use crate::coefficient::{CoefficientRow, RowRead};
+use crate::coefficient::CoefficientRow;
 use crate::{coefficient, whole};
-use amounts::decline;
-use amounts::decline::Decline;
+use amounts::decline::{Decline, check};
 use forms::form;
-use forms::form::{FormRead, LossForm};
+use forms::form::{Inputs, LossForm};
 
-#[derive(Clone, Copy)]
-enum Kg {
-    Value(f64),
-    Declined(Decline),
-}
-
-#[derive(Clone, Copy)]
-pub enum Loss {
-    Micrograms(u64),
-    Declined(Decline),
-}
-
+#[tactic(auto, using(crate::proofs::Numerals::numerals), unfolding(crate::specs::Loss::floating_roof_kg))]
 fn floating_roof_kg(row: CoefficientRow, w: f64, u: f64, p: f64) -> f64
     ensures { result ≡ floating_roof_kg row w u p }
 {
     ((((row.k * (4.0 / w)) * row.m) / 22.4) * (u / 100.0)) * p
 }
 
+#[tactic(auto, using(crate::proofs::Numerals::numerals), unfolding(crate::specs::Loss::fixed_roof_kg))]
 fn fixed_roof_kg(row: CoefficientRow, w: f64, u: f64, p: f64, q: f64) -> f64
     ensures { result ≡ fixed_roof_kg row w u p q }
 {
     (((0.041 * row.m) * w) * (u / p)) * q
 }
 
+#[tactic(auto, unfolding(crate::specs::Loss::station_kg))]
 fn station_kg(w: f64, u: f64, p: f64, q: f64) -> f64
     ensures { result ≡ station_kg w u p q }
 {
@@ -43,95 +32,85 @@ fn station_kg(w: f64, u: f64, p: f64, q: f64) -> f64
 }
 
 // The loss of a form in kg, over the row that was found for its substance.
-fn loss_kg(form: LossForm, found: RowRead) -> Kg
-    ensures { kg_answer result ≡ kg_of form (coefficients.answer found) }
+fn loss_kg(form: LossForm, found: Result<CoefficientRow, Decline>) -> Result<f64, Decline>
+    ensures { result ≡ kg_of form found }
 {
     match form {
         LossForm::FloatingRoof {
             diameter,
             content,
             drawn,
-        } => {
-            if found.known != coefficient::KNOWN {
-                return Kg::Declined(decline::NO_ROW);
-            }
-            let row = found.row;
-            Kg::Value(floating_roof_kg(row, diameter, content, drawn))
-        }
+        } => Ok(floating_roof_kg(found?, diameter, content, drawn)),
         LossForm::FixedRoof {
             volume,
             partial,
             tank,
             escaping,
-        } => {
-            if found.known != coefficient::KNOWN {
-                return Kg::Declined(decline::NO_ROW);
-            }
-            let row = found.row;
-            Kg::Value(fixed_roof_kg(row, volume, partial, tank, escaping))
-        }
+        } => Ok(fixed_roof_kg(found?, volume, partial, tank, escaping)),
         LossForm::Station {
             received,
             filling,
             dispensed,
             fueling,
-        } => { Kg::Value(station_kg(received, filling, dispensed, fueling)) }
+        } => Ok(station_kg(received, filling, dispensed, fueling)),
     }
 }
 
 // A loss in kg as micrograms, up to 2,000,000 kg.
-fn limited(kg: f64) -> Loss
-    ensures { answer result ≡ limited_of kg }
+#[tactic(auto, using(crate::proofs::Numerals::numerals), unfolding(crate::specs::Loss::limited_of, amounts::specs::Decline::checked))]
+fn limited(kg: f64) -> Result<u64, Decline>
+    ensures { result ≡ limited_of kg }
 {
-    if kg <= 2000000.0 {
-        return Loss::Micrograms(whole::whole_part(kg * 1000000000.0));
-    }
-    Loss::Declined(decline::EXCESS)
+    check(kg <= 2000000.0, Decline::Excess)?;
+    Ok(whole::whole_part(kg * 1000000000.0))
 }
 
 // The loss of a form in micrograms, over the row that was found for its substance.
-fn loss_of(form: LossForm, found: RowRead) -> Loss
-    ensures { answer result ≡ loss_of form (coefficients.answer found) }
+#[tactic(auto, unfolding(crate::specs::Loss::loss_of))]
+fn loss_of(form: LossForm, found: Result<CoefficientRow, Decline>) -> Result<u64, Decline>
+    ensures { result ≡ loss_of form found }
 {
-    match loss_kg(form, found) {
-        Kg::Value(kg) => limited(kg),
-        Kg::Declined(d) => Loss::Declined(d),
-    }
+    limited(loss_kg(form, found)?)
 }
 
-// The loss of a form's number and four bit patterns, over the row that was found for its substance; a station needs none.
-pub fn loss_over(form: u8, found: RowRead, w: u64, u: u64, p: u64, q: u64) -> Loss
-    ensures { answer result ≡ loss_over form (coefficients.answer found) (value_of w) (value_of u) (value_of p) (value_of q) }
+// The loss of a form's number and four bit patterns, over the row that was found for its substance; a station needs none. It is inlined for speed, as
+// is its caller: called, they would hand the inputs on in memory.
+#[tactic(auto, unfolding(crate::specs::Loss::loss_over))]
+#[inline(always)]
+pub fn loss_over(
+    form: u8,
+    found: Result<CoefficientRow, Decline>,
+    bits: Inputs<u64>,
+) -> Result<u64, Decline>
+    ensures { result ≡ loss_over form found (value_of bits.w) (value_of bits.u) (value_of bits.p) (value_of bits.q) }
 {
-    match form::read_form(form, w, u, p, q) {
-        FormRead::Form(f) => loss_of(f, found),
-        FormRead::Declined(d) => Loss::Declined(d),
-    }
+    loss_of(form::read_form(form, bits)?, found)
 }
 
-// The row over which a form's loss is that of the number: a station needs none, so that none is looked for.
-fn row_for(form: u8, number: u16) -> RowRead
-    ensures { (w u p q : Float) → loss_over form (coefficients.answer result) w u p q ≡ loss_over form (coefficients.row_of number) w u p q }
+// The row over which a form's loss is that of the number: a station needs none, so that none is looked for. With the search its loss took 1.6 times as long.
+#[tactic(auto, using(crate::proofs::loss::Laws::station_alone))]
+fn row_for(form: u8, number: u16) -> Result<CoefficientRow, Decline>
+    ensures { (w u p q : Float) → loss_over form result w u p q ≡ loss_over form (row_of number) w u p q }
 {
     if form == 3 {
-        return coefficient::NOT_FOUND;
+        return Err(Decline::NoRow);
     }
     coefficient::row_of(number)
 }
 
 // The loss of a form's number and four bit patterns, over the row of a management number.
-pub fn loss_by_number(form: u8, number: u16, w: u64, u: u64, p: u64, q: u64) -> Loss
-    ensures { answer result ≡ loss_over form (coefficients.row_of number) (value_of w) (value_of u) (value_of p) (value_of q) }
+#[inline(always)]
+pub fn loss_by_number(form: u8, number: u16, bits: Inputs<u64>) -> Result<u64, Decline>
+    ensures { result ≡ loss_over form (row_of number) (value_of bits.w) (value_of bits.u) (value_of bits.p) (value_of bits.q) }
 {
-    loss_over(form, row_for(form, number), w, u, p, q)
+    loss_over(form, row_for(form, number), bits)
 }
 
 // The loss called alone: a form's number, a management number and four bit patterns.
-pub fn vapour_loss(form: u8, number: u16, w: u64, u: u64, p: u64, q: u64) -> Loss
-    ensures { answer result ≡ vapour_of form number (value_of w) (value_of u) (value_of p) (value_of q) }
+#[tactic(auto, unfolding(crate::specs::Loss::vapour_of))]
+pub fn vapour_loss(form: u8, number: u16, bits: Inputs<u64>) -> Result<u64, Decline>
+    ensures { result ≡ vapour_of form number (value_of bits.w) (value_of bits.u) (value_of bits.p) (value_of bits.q) }
 {
-    if number < 1 {
-        return Loss::Declined(decline::LAYOUT);
-    }
-    loss_by_number(form, number, w, u, p, q)
+    check(number >= 1, Decline::Layout)?;
+    loss_by_number(form, number, bits)
 }

@@ -1,6 +1,6 @@
 -- A list of a writer's calls, and which of them are accepted (document 02, (a)).
-use Rattle.std.specs.Prelude.{ℕ, Bool, true, false, List, [], ◌∷◌}
-use Rattle.amounts.specs.Decline.{Answer, taken, is_taken, value_or}
+use Rattle.std.specs.Prelude.{ℕ, Bool, true, false, List, [], ◌∷◌, Ok}
+use Rattle.amounts.specs.Decline.{Answer, is_taken, value_or}
 use Rattle.pages.specs.Page.{Page, set_up_on, post_on, ended}
 
 -- "the set-up (each block's kind, count and 500-byte body) and then posts", and an end; of any numbers and bytes
@@ -12,7 +12,7 @@ pub data Call : Type 0 where
 abbrev pub answer_to : Page → Call → Answer Page
 answer_to p (set_up kind count body) = set_up_on p kind count body
 answer_to p (post s) = post_on p s
-answer_to p end = taken (ended p)
+answer_to p end = Ok (ended p)
 
 abbrev pub after : Page → Call → Page
 after p call = value_or p (answer_to p call)

@@ -1,19 +1,21 @@
 -- What a writer has, as a page: the lent buffer's bytes, how many are filled, and the block being filled; and what its calls make of it, one by one (document 02,
 -- (a)). What the bytes of a whole list of calls are is said without a page in the claims.
-use Rattle.std.specs.Prelude.{ℕ, ◌+◌, ◌*◌, ◌≡◌, cond, List, eqb, length, replicate}
-use Rattle.amounts.specs.Decline.{Answer, taken, checked, on_taken, value_or}
+use Rattle.std.specs.Prelude.{ℕ, ◌+◌, ◌*◌, ◌≡◌, cond, List, eqb, length, replicate, Ok}
+use Rattle.amounts.specs.Decline.{Answer, checked, on_taken, value_or, verdict_of}
 use Rattle.layout.specs.Frame.{body_of, block_of}
 use Rattle.layout.specs.Posts.{post_size}
-use Rattle.layout.specs.Verdict.{verdict_of}
 use Rattle.layout.specs.declared.holds.SetupPart.{SetupPart}
-use Rattle.layout.specs.declared.verdict.Verdict.{Verdict}
 use Rattle.encoding.specs.Bytes.{placed}
 use Rattle.pages.specs.Tally as tally
 use Rattle.pages.specs.Tally.{part_of_kind, set_up_checks, post_answer}
-use Rattle.pages.specs.declared.draft.Draft.{Draft}
 use Rattle.pages.specs.declared.tally.Tally.{Tally}
 
 -- ---- the block being filled
+
+-- how far the writer has come, and the block with the posts that wait
+pub record Draft : Type 0 where
+  pub tally : Tally
+  pub block : List ℕ
 
 abbrev pub draft_of : Tally → List ℕ → Draft
 draft_of t block = record { tally = t; block = block }
@@ -64,7 +66,7 @@ posted p s =
 
 unfoldable pub post_on : Page → List ℕ → Answer Page
 unfolding post_answer posted
-post_on p s = on_taken (post_answer (length p.bytes) p.draft.tally s) (λ _. taken (posted p s))
+post_on p s = on_taken (post_answer (length p.bytes) p.draft.tally s) (λ _. Ok (posted p s))
 
 -- the page with a part of the set-up more
 abbrev pub with_part : Page → ℕ → SetupPart → ℕ → List ℕ → Page
@@ -87,8 +89,6 @@ pub record Sound (p : Page) : Type 0 where
   pub filled_is : p.filled ≡ p.draft.tally.blocks * 512
 
 -- what a call answers, and the page after it: as it was where the call is declined
-pub record Answers (p : Page) (a : Answer Page) (v : Verdict) (q : Page) : Type 0 where
+pub record Answers (p : Page) (a : Answer Page) (v : Answer Unit) (q : Page) : Type 0 where
   pub verdict : v ≡ verdict_of a
   pub after : q ≡ value_or p a
-  pub size : length q.bytes ≡ length p.bytes
-  pub sound : Sound q

@@ -1,17 +1,16 @@
 -- How far a writer has come, and what its calls answer (document 02, (a)). None of it asks for the bytes that are written.
-use Rattle.std.specs.Prelude.{ℕ, ◌+◌, ◌*◌, ◌≤◌, ◌<◌, ◌≡◌, Bool, true, ◌&&◌, cond, List, [], ◌∷◌, ◌++◌, eqb, leb, ltb}
-use Rattle.amounts.specs.Decline.{Answer, taken, declined, Check, check, checked, on_taken, value_or, out_of_turn, layout, no_room}
+use Rattle.std.specs.Prelude.{ℕ, ◌+◌, ◌*◌, ◌≤◌, ◌<◌, ◌≡◌, Bool, true, ◌&&◌, cond, List, [], ◌∷◌, ◌++◌, eqb, leb, ltb, Ok, Err}
+use Rattle.amounts.specs.Decline.{Answer, Check, check, checked, on_taken, value_or, verdict_of}
+use Rattle.amounts.specs.declared.decline.Decline.TheVariants.{OutOfTurn, Layout, NoRoom}
 use Rattle.layout.specs.Holds.{holds_of}
 use Rattle.layout.specs.Outline.{fresh_outline, with_described, may_post}
 use Rattle.plant.specs.Setup.{outline_of, setup_checks}
 use Rattle.plant.specs.Stage.{stage_checks}
-use Rattle.layout.specs.Verdict.{verdict_of}
 use Rattle.layout.specs.declared.holds.Holds.{Holds}
 use Rattle.layout.specs.declared.holds.Holds.TheVariants.{SetUp, Posts}
 use Rattle.layout.specs.declared.holds.SetupPart.{SetupPart}
 use Rattle.layout.specs.declared.holds.SetupPart.TheVariants.{Materials, Stage}
 use Rattle.layout.specs.declared.outline.Outline.{Outline}
-use Rattle.layout.specs.declared.verdict.Verdict.{Verdict}
 use Rattle.kinds.specs.Kind.{Row}
 use Rattle.post.specs.Moves.{well_formed}
 use Rattle.pages.specs.declared.tally.Tally.{Tally}
@@ -31,9 +30,9 @@ is_free room t = ltb t.blocks 65536 && leb (t.blocks * 512 + 512) room
 
 -- "A set-up kind other than 1 or 2 is a 6 in any turn": what holds posts, or nothing that is known, is no part of the set-up
 abbrev pub as_part : Answer Holds → Answer SetupPart
-as_part (taken (SetUp part)) = taken part
-as_part (taken Posts) = declined layout
-as_part (declined n) = declined layout
+as_part (Ok (SetUp part)) = Ok part
+as_part (Ok Posts) = Err Layout
+as_part (Err n) = Err Layout
 
 unfoldable pub part_of_kind : ℕ → Answer SetupPart
 unfolding holds_of
@@ -46,7 +45,7 @@ part_checks o Stage count body = stage_checks o count body
 
 -- and 13 "after all others"
 abbrev pub set_up_checks : ℕ → Tally → SetupPart → ℕ → List ℕ → List Check
-set_up_checks room t part count body = part_checks t.outline part count body ++ (check (is_free room t) no_room ∷ [])
+set_up_checks room t part count body = part_checks t.outline part count body ++ (check (is_free room t) NoRoom ∷ [])
 
 -- 13 is asked of "a post that begins a block"
 abbrev pub may_begin : ℕ → Tally → Bool
@@ -56,8 +55,8 @@ may_begin room t = cond (eqb t.waiting 0) (is_free room t) true
 unfoldable pub post_answer : ℕ → Tally → List ℕ → Answer Row
 unfolding checked well_formed
 post_answer room t s =
-    on_taken (checked (check (may_post t.outline) out_of_turn ∷ []) s) (λ s.
-    on_taken (well_formed t.outline s) (λ k. checked (check (may_begin room t) no_room ∷ []) k))
+    on_taken (checked (check (may_post t.outline) OutOfTurn ∷ []) s) (λ s.
+    on_taken (well_formed t.outline s) (λ k. checked (check (may_begin room t) NoRoom ∷ []) k))
 
 -- ---- how far the writer has come then
 
@@ -93,7 +92,7 @@ set_up_on room t kind count body = on_taken (part_of_kind kind) (λ part. part_o
 
 unfoldable pub post_on : ℕ → Tally → List ℕ → Answer Tally
 unfolding post_answer posted
-post_on room t s = on_taken (post_answer room t s) (λ _. taken (posted t))
+post_on room t s = on_taken (post_answer room t s) (λ _. Ok (posted t))
 
 -- ---- what is true of every writer's tally
 
@@ -110,7 +109,6 @@ pub record Sound (room : ℕ) (t : Tally) : Type 0 where
   pub begun : 0 < t.waiting → Begun room t
 
 -- what a call answers, and the tally after it: as it was where the call is declined
-pub record Counts (room : ℕ) (t : Tally) (a : Answer Tally) (v : Verdict) (q : Tally) : Type 0 where
+pub record Counts (t : Tally) (a : Answer Tally) (v : Answer Unit) (q : Tally) : Type 0 where
   pub verdict : v ≡ verdict_of a
   pub after : q ≡ value_or t a
-  pub sound : Sound room q

@@ -1,6 +1,5 @@
-// Journals written page by page: into a lent buffer, a set-up block or a post at a time, by the checks that need no book.
+// How far a writer of a journal has come, page by page, and what its calls answer by the checks that need no book. None of it needs the bytes.
 #![tactic(auto)]
 
-pub mod draft;
-pub mod page;
+pub mod counter;
 pub mod tally;

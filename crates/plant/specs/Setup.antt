@@ -1,16 +1,16 @@
 -- Kind 1: the substances and the materials (document 01, "Journal blocks"). The body is the block's bytes 8 to 507.
 use Rattle.std.specs.Prelude.{ℕ, zero, suc, ◌+◌, ◌*◌, ◌%◌, ◌≤◌, ◌≡◌, Bool, false, ◌&&◌, List, [], ◌∷◌, eqb, leb, ltb, length, get_or, drop, replicate}
+use Rattle.std.specs.List.{list_all}
 use Rattle.amounts.specs.Class.{is_class}
 use Rattle.amounts.specs.Content.{counted_of}
-use Rattle.amounts.specs.Decline.{Answer, taken, declined, Check, check, checked, value_or, out_of_turn, layout}
+use Rattle.amounts.specs.Decline.{Answer, Check, check, checked, value_or}
+use Rattle.amounts.specs.declared.decline.Decline.TheVariants.{OutOfTurn, Layout}
 use Rattle.encoding.specs.Bytes.{le, les, part, within, all_zero}
 use Rattle.encoding.specs.Each.{sum_to, all_to, list_to}
 use Rattle.layout.specs.Outline.{fresh_outline, may_set_up}
 use Rattle.layout.specs.declared.outline.Outline.{Outline}
-use Rattle.layout.specs.declared.verdict.Verdict.TheVariants.{Accepted, Declined}
 use Rattle.plant.specs.declared.setup.Rates.{Rates}
 use Rattle.plant.specs.declared.setup.Setup.{Setup}
-use Rattle.plant.specs.declared.setup.SetupEnd.{SetupEnd}
 
 -- "8: materials, 1–12. 9: stages, 1–8."
 abbrev pub materials_in : List ℕ → ℕ
@@ -41,7 +41,7 @@ abbrev pub rising : ℕ → List ℕ → Bool
 rising n s = all_to n (λ i. ltb (before s i) (number_at s i))
 
 abbrev pub all_classes : List ℕ → Bool
-all_classes s = all_to (length s) (λ i. is_class (get_or s i 0))
+all_classes s = list_all is_class s
 
 -- a material's contents: "summing to at most 1,000,000", and zero for the substances from the kth on
 abbrev pub row_sum : List ℕ → ℕ
@@ -56,28 +56,28 @@ rows_fit k n s = all_to n (λ i. row_fits k (drop (i * 32) s))
 -- 6: each limit, order and zero place; "Unused places are zero", and so are bytes not named
 abbrev pub material_checks : ℕ → List ℕ → List Check
 material_checks count body =
-    check (rows_fit count (materials_in body) (drop 26 body)) layout
-    ∷ check (all_zero (drop (26 + materials_in body * 32) body)) layout
+    check (rows_fit count (materials_in body) (drop 26 body)) Layout
+    ∷ check (all_zero (drop (26 + materials_in body * 32) body)) Layout
     ∷ []
 
 abbrev pub substance_checks : ℕ → List ℕ → List Check
 substance_checks count body =
-    check (rising count (drop 2 body)) layout
-    ∷ check (all_zero (part (2 + count * 2) 18 body)) layout
-    ∷ check (all_classes (part 18 (18 + count) body)) layout
-    ∷ check (all_zero (part (18 + count) 26 body)) layout
+    check (rising count (drop 2 body)) Layout
+    ∷ check (all_zero (part (2 + count * 2) 18 body)) Layout
+    ∷ check (all_classes (part 18 (18 + count) body)) Layout
+    ∷ check (all_zero (part (18 + count) 26 body)) Layout
     ∷ material_checks count body
 
 abbrev pub body_checks : ℕ → List ℕ → List Check
 body_checks count body =
-    check (within 1 8 count) layout
-    ∷ check (within 1 12 (materials_in body)) layout
-    ∷ check (within 1 8 (stages_in body)) layout
+    check (within 1 8 count) Layout
+    ∷ check (within 1 12 (materials_in body)) Layout
+    ∷ check (within 1 8 (stages_in body)) Layout
     ∷ substance_checks count body
 
 -- 4, and then 6
 abbrev pub setup_checks : Outline → ℕ → List ℕ → List Check
-setup_checks o count body = check (may_set_up o) out_of_turn ∷ check (eqb (length body) 500) layout ∷ body_checks count body
+setup_checks o count body = check (may_set_up o) OutOfTurn ∷ check (eqb (length body) 500) Layout ∷ body_checks count body
 
 -- each material's content of each substance, as it counts
 abbrev pub counted_all : List ℕ → List ℕ → List ℕ
@@ -121,11 +121,6 @@ setup_of count body =
 unfoldable pub set_up_on : Setup → ℕ → List ℕ → Answer Setup
 unfolding checked
 set_up_on u count body = checked (setup_checks u.outline count body) (setup_of count body)
-
--- "A decline returns its number and the book given in": what the code returns for an answer to a set-up block
-abbrev pub setup_end : Setup → Answer Setup → SetupEnd
-setup_end given (taken u) = record { verdict = Accepted; setup = u }
-setup_end given (declined n) = record { verdict = Declined (record { number = n }); setup = given }
 
 -- ---- what is true of every set-up of a book
 

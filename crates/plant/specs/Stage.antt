@@ -1,7 +1,8 @@
 -- Kind 2: a stage (document 01, "Journal blocks"). The body is the block's bytes 8 to 507.
-use Rattle.std.specs.Prelude.{ℕ, ◌+◌, ◌*◌, Bool, true, false, cond, ◌&&◌, List, [], ◌∷◌, eqb, leb, length, get_or, drop, set}
+use Rattle.std.specs.Prelude.{ℕ, ◌+◌, ◌*◌, Bool, true, false, cond, ◌&&◌, List, [], ◌∷◌, eqb, leb, length, get_or, drop, set, Ok, Err}
 use Rattle.amounts.specs.Content.{is_ppm}
-use Rattle.amounts.specs.Decline.{Answer, taken, declined, is_taken, value_or, Check, check, checked, out_of_turn, layout}
+use Rattle.amounts.specs.Decline.{Answer, is_taken, value_or, Check, check, checked}
+use Rattle.amounts.specs.declared.decline.Decline.TheVariants.{OutOfTurn, Layout}
 use Rattle.encoding.specs.Bytes.{le, all_zero}
 use Rattle.encoding.specs.Each.{all_to, put_to}
 use Rattle.layout.specs.Outline.{with_described, may_describe}
@@ -11,7 +12,7 @@ use Rattle.plant.specs.declared.setup.Setup.{Setup}
 
 -- a byte that names one of two cases, 1 or 2: whether it is the second; any other byte breaks the layout
 unfoldable pub second_of : ℕ → Answer Bool
-second_of byte = cond (eqb byte 1) (taken false) (cond (eqb byte 2) (taken true) (declined layout))
+second_of byte = cond (eqb byte 1) (Ok false) (cond (eqb byte 2) (Ok true) (Err Layout))
 
 -- "8: 1 public water, 2 sewer": where the stage's treated water goes
 abbrev pub water_in : List ℕ → Answer Bool
@@ -61,19 +62,19 @@ all_pairs_fit n s = all_to n (λ i. pair_fits (side_row s i) (rate_row s i))
 -- 6: "8: 1 public water, 2 sewer. 9: residues 1 off site, 2 landfill. From 10, 17 bytes per substance"; all other bytes are zero
 abbrev pub stage_body_checks : ℕ → List ℕ → List Check
 stage_body_checks substances body =
-    check (is_taken (water_in body)) layout
-    ∷ check (is_taken (residue_in body)) layout
-    ∷ check (all_pairs_fit substances (drop 2 body)) layout
-    ∷ check (all_zero (drop (2 + substances * 17) body)) layout
+    check (is_taken (water_in body)) Layout
+    ∷ check (is_taken (residue_in body)) Layout
+    ∷ check (all_pairs_fit substances (drop 2 body)) Layout
+    ∷ check (all_zero (drop (2 + substances * 17) body)) Layout
     ∷ []
 
 -- 4, and then 6; no outline of a book has more than eight substances or stages
 abbrev pub stage_checks : Outline → ℕ → List ℕ → List Check
 stage_checks o stage body =
-    check (may_describe o stage) out_of_turn
-    ∷ check (eqb (length body) 500) layout
-    ∷ check (leb o.substances 8) layout
-    ∷ check (leb o.stages 8) layout
+    check (may_describe o stage) OutOfTurn
+    ∷ check (eqb (length body) 500) Layout
+    ∷ check (leb o.substances 8) Layout
+    ∷ check (leb o.stages 8) Layout
     ∷ stage_body_checks o.substances body
 
 -- ---- kind 2 on a set-up: its next stage described

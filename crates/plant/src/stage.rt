@@ -1,191 +1,116 @@
 // Kind 2: what a body says of a stage's destinations and of each substance's side and rates, its limits, and the set-up with that stage described.
-ghost use Rattle.std.specs.Prelude.{◌≡◌, false, ◌+◌, ◌*◌, ◌≤◌, ◌<◌, length, drop, set};
+ghost use Rattle.std.specs.Prelude.{◌≡◌, false, ◌≤◌, ◌<◌, length, drop};
 ghost use Rattle.amounts.specs.Decline.{checked, value_or};
-ghost use Rattle.encoding.specs.Each.{put_to};
-ghost use Rattle.layout.specs.Verdict.{verdict_of};
-ghost use Rattle.plant.specs.Setup.{setup_end};
-ghost use Rattle.plant.specs.Stage.{second_of, water_row, rate_row, with_stage, described_on};
+ghost use Rattle.plant.specs.Stage.{second_of, with_stage, described_on};
 ghost use Rattle.plant.specs.Stage.{rates_at, pair_fits, all_pairs_fit, stage_body_checks, stage_checks};
 
-use crate::setup::{NO_RATES, Rates, Setup, SetupEnd};
-use amounts::decline;
+use crate::setup::{Rates, Setup};
+use amounts::decline::{Decline, check};
 use encoding::bytes;
 use layout::outline;
 use layout::outline::Outline;
-use layout::verdict::{Verdict, row};
 
-// Whether a byte names the second of two cases.
+// Whether a byte names the second of two cases, 1 and 2.
+#[tactic(auto, unfolding(crate::specs::Stage::second_of))]
+fn second_of(byte: u8) -> Result<bool, Decline>
+    ensures { result ≡ second_of byte }
+{
+    match byte {
+        1 => Ok(false),
+        2 => Ok(true),
+        _ => Err(Decline::Layout),
+    }
+}
+
+// The same, where a byte that names neither counts as the first.
 pub fn is_second(byte: u8) -> bool
     ensures { result ≡ value_or false (second_of byte) }
 {
-    byte == 2
+    second_of(byte).unwrap_or(false)
 }
 
 // The rates of the row that stands from a place on, behind its side.
+#[tactic(auto, unfolding(crate::specs::Stage::rates_at))]
 pub fn rates_at(s: &[u8], at: usize) -> Rates
     ensures { result ≡ rates_at (drop at s.now) }
 {
-    if at >= s.len() {
-        return NO_RATES;
-    }
+    let row = bytes::tail(s, at);
     Rates {
-        gas_removal: bytes::le32(s, at + 1),
-        gas_destruction: bytes::le32(s, at + 5),
-        water_removal: bytes::le32(s, at + 9),
-        water_destruction: bytes::le32(s, at + 13),
+        gas_removal: bytes::le32(row, 1),
+        gas_destruction: bytes::le32(row, 5),
+        water_removal: bytes::le32(row, 9),
+        water_destruction: bytes::le32(row, 13),
     }
 }
 
 fn pair_fits(side: u8, r: Rates) -> bool
     ensures { result ≡ pair_fits (second_of side) r }
 {
-    if !bytes::is_within(1, 2, side) {
-        return false;
-    }
-    if r.gas_removal > 1_000_000 {
-        return false;
-    }
-    if r.gas_destruction > 1_000_000 {
-        return false;
-    }
-    if r.water_removal > 1_000_000 {
-        return false;
-    }
-    r.water_destruction <= 1_000_000
+    second_of(side).is_ok()
+        && r.gas_removal <= 1_000_000
+        && r.gas_destruction <= 1_000_000
+        && r.water_removal <= 1_000_000
+        && r.water_destruction <= 1_000_000
 }
 
 fn all_pairs_fit(s: &[u8], n: u8) -> bool
     ensures { result ≡ all_pairs_fit n s.now }
 {
-    let end = n as usize;
-    let mut i: usize = 0;
-    while i < end {
-        if !pair_fits(bytes::byte_at(s, i * 17), rates_at(s, i * 17)) {
-            return false;
-        }
-        i += 1;
-    }
-    true
+    (0..usize::from(n)).all(|i| pair_fits(bytes::byte_at(s, i * 17), rates_at(s, i * 17)))
 }
 
-fn checked_body(substances: u8, body: &[u8]) -> Verdict
-    ensures { result ≡ verdict_of (checked (stage_body_checks substances body.now) (tt {0})) }
+#[tactic(auto, using(crate::proofs::stage::Laws::second_declines), unfolding(amounts::specs::Decline::checked))]
+fn check_body(substances: u8, body: &[u8]) -> Result<(), Decline>
+    ensures { result ≡ checked (stage_body_checks substances body.now) (tt {0}) }
 {
-    let end = bytes::zero_from(body, 2 + (substances as usize) * 17);
-    let zeros = row(end, decline::LAYOUT, Verdict::Accepted);
-    let pairs = row(
+    second_of(bytes::byte_at(body, 0))?;
+    second_of(bytes::byte_at(body, 1))?;
+    check(
         all_pairs_fit(bytes::tail(body, 2), substances),
-        decline::LAYOUT,
-        zeros,
-    );
-    let residue = row(
-        bytes::is_within(1, 2, bytes::byte_at(body, 1)),
-        decline::LAYOUT,
-        pairs,
-    );
-    row(
-        bytes::is_within(1, 2, bytes::byte_at(body, 0)),
-        decline::LAYOUT,
-        residue,
+        Decline::Layout,
+    )?;
+    check(
+        bytes::zero_from(body, 2 + usize::from(substances) * 17),
+        Decline::Layout,
     )
 }
 
 // Whether a kind 2 block's body is in its turn and within its limits, by the outline and the bytes alone.
-pub fn check_stage(o: Outline, stage: u8, body: &[u8]) -> Verdict
-    ensures { result ≡ verdict_of (checked (stage_checks o stage body.now) (tt {0})) }
+#[tactic(auto, unfolding(amounts::specs::Decline::checked))]
+pub fn check_stage(o: Outline, stage: u8, body: &[u8]) -> Result<(), Decline>
+    ensures { result ≡ checked (stage_checks o stage body.now) (tt {0}) }
 {
-    let stages = row(
-        o.stages <= 8,
-        decline::LAYOUT,
-        checked_body(o.substances, body),
-    );
-    let few = row(o.substances <= 8, decline::LAYOUT, stages);
-    let long = row(body.len() == 500, decline::LAYOUT, few);
-    row(outline::may_describe(o, stage), decline::OUT_OF_TURN, long)
-}
-
-// The sides of n substances, into the pairs from base on.
-fn sides_into(to_water: [bool; 64], base: usize, s: &[u8], n: usize) -> [bool; 64]
-    requires { base + n ≤ 64 }
-    ensures { result ≡ put_to (λ i. base + i) (water_row s.now) to_water n }
-{
-    let mut out = to_water;
-    let mut i: usize = 0;
-    while i < n {
-        out[base + i] = is_second(bytes::byte_at(s, i * 17));
-        i += 1;
-    }
-    out
-}
-
-// The rates of n substances, into the pairs from base on.
-fn rates_into(rates: [Rates; 64], base: usize, s: &[u8], n: usize) -> [Rates; 64]
-    requires { base + n ≤ 64 }
-    ensures { result ≡ put_to (λ i. base + i) (rate_row s.now) rates n }
-{
-    let mut out = rates;
-    let mut i: usize = 0;
-    while i < n {
-        out[base + i] = rates_at(s, i * 17);
-        i += 1;
-    }
-    out
-}
-
-// The destination that a byte names, at its stage.
-fn case_into(cases: [bool; 8], stage: usize, byte: u8) -> [bool; 8]
-    requires { stage < 8 }
-    ensures { result ≡ set cases stage (value_or false (second_of byte)) }
-{
-    let mut out = cases;
-    out[stage] = is_second(byte);
-    out
+    check(outline::may_describe(o, stage), Decline::OutOfTurn)?;
+    check(body.len() == 500, Decline::Layout)?;
+    check(o.substances <= 8, Decline::Layout)?;
+    check(o.stages <= 8, Decline::Layout)?;
+    check_body(o.substances, body)
 }
 
 // The set-up with a stage as the body says.
-fn with_stage(u: Setup, stage: u8, body: &[u8]) -> Setup
-    requires { (stage < 8) × (u.outline.substances ≤ 8) × (length body.now ≡ 500) }
-    ensures { result ≡ with_stage u stage body.now }
+#[tactic(auto, using(crate::proofs::stage::Laws::staged_more), unfolding(encoding::specs::Each::put_to))]
+fn with_stage(u: &Setup, stage: u8, body: &[u8]) -> Setup
+    requires { (stage < 8) × (u.now.outline.substances ≤ 8) × (length body.now ≡ 500) }
+    ensures { result ≡ with_stage u.now stage body.now }
 {
-    let o = u.outline;
-    let k = stage as usize;
-    let n = o.substances as usize;
+    let k = usize::from(stage);
     let rows = bytes::tail(body, 2);
-    let numbers = u.numbers;
-    let classes = u.classes;
-    let counted = u.counted;
-    let sewer = u.to_sewer;
-    let landfill = u.to_landfill;
-    let water = u.to_water;
-    let rates = u.rates;
-    Setup {
-        outline: Outline {
-            substances: o.substances,
-            materials: o.materials,
-            stages: o.stages,
-            described: stage + 1,
-        },
-        numbers,
-        classes,
-        counted,
-        to_sewer: case_into(sewer, k, body[0]),
-        to_landfill: case_into(landfill, k, body[1]),
-        to_water: sides_into(water, k * 8, rows, n),
-        rates: rates_into(rates, k * 8, rows, n),
+    let mut next = *u;
+    next.outline.described = stage + 1;
+    next.to_sewer[k] = is_second(body[0]);
+    next.to_landfill[k] = is_second(body[1]);
+    for i in 0..usize::from(u.outline.substances) {
+        next.to_water[k * 8 + i] = is_second(bytes::byte_at(rows, i * 17));
+        next.rates[k * 8 + i] = rates_at(rows, i * 17);
     }
+    next
 }
 
 // The set-up with one stage more described by a kind 2 block.
-pub fn describe(u: Setup, stage: u8, body: &[u8]) -> SetupEnd
-    ensures { result ≡ setup_end u (described_on u stage body.now) }
+#[tactic(auto, unfolding(crate::specs::Stage::described_on))]
+pub fn describe(u: &Setup, stage: u8, body: &[u8]) -> Result<Setup, Decline>
+    ensures { result ≡ described_on u.now stage body.now }
 {
-    let o = u.outline;
-    let verdict = check_stage(o, stage, body);
-    if let Verdict::Declined(_) = verdict {
-        return SetupEnd { verdict, setup: u };
-    }
-    SetupEnd {
-        verdict: Verdict::Accepted,
-        setup: with_stage(u, stage, body),
-    }
+    check_stage(u.outline, stage, body)?;
+    Ok(with_stage(u, stage, body))
 }

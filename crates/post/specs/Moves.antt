@@ -1,8 +1,9 @@
 -- What a post does, as one value (document 01, "Posts" and "Why a call is declined, in checking order", 6 to 9).
-use Rattle.std.specs.Prelude.{ℕ, ◌*◌, Bool, true, false, List, [], ◌∷◌, eqb, length, get_or}
+use Rattle.std.specs.Prelude.{ℕ, ◌*◌, Bool, true, false, List, [], ◌∷◌, eqb, length, get_or, Ok}
 use Rattle.forms.specs.Binary64.{value_of}
 use Rattle.losses.specs.Coefficient.{row_of}
-use Rattle.amounts.specs.Decline.{Answer, taken, declined, check, checked, on_taken, value_or, layout, range}
+use Rattle.amounts.specs.Decline.{Answer, check, checked, on_taken, value_or}
+use Rattle.amounts.specs.declared.decline.Decline.TheVariants.{Layout, OutOfRange}
 use Rattle.forms.specs.Form.{unused_ranges, in_ranges, in_form}
 use Rattle.losses.specs.Loss.{loss_over}
 use Rattle.layout.specs.Posts.{post_size}
@@ -16,8 +17,6 @@ use Rattle.kinds.specs.declared.kind.Measure.{Measure}
 use Rattle.kinds.specs.declared.kind.Measure.TheVariants.{Quantity, Content, Loss}
 use Rattle.post.specs.declared.moves.Move.{Move}
 use Rattle.post.specs.declared.moves.Move.TheVariants.{Received, Issued, Brought, Gone, Close}
-use Rattle.post.specs.declared.moves.MoveRead.{MoveRead}
-use Rattle.post.specs.declared.moves.MoveRead.TheVariants as read
 
 -- "an unused float has zero as its whole range, so decline 7 covers it"
 abbrev pub floats_unused : Post → Bool
@@ -27,8 +26,8 @@ floats_unused p = in_ranges unused_ranges (value_of p.w) (value_of p.u) (value_o
 unfoldable pub laid_out : Outline → List ℕ → Answer Row
 unfolding checked kind_of
 laid_out o s =
-    on_taken (checked (check (eqb (length s) post_size) layout ∷ []) (post_at s)) (λ p.
-    on_taken (kind_of p.kind) (λ k. checked (check (fields_fit (k.limits o) p) layout ∷ []) k))
+    on_taken (checked (check (eqb (length s) post_size) Layout ∷ []) (post_at s)) (λ p.
+    on_taken (kind_of p.kind) (λ k. checked (check (fields_fit (k.limits o) p) Layout ∷ []) k))
 
 -- 7 of a post, by its kind's measure: "an unused float has zero as its whole range", and a loss has the ranges of its form
 abbrev pub floats_fit : Measure → Post → Bool
@@ -39,13 +38,13 @@ floats_fit Loss p = in_form p.material (value_of p.w) (value_of p.u) (value_of p
 -- 6 and 7 of a post's bytes, which need no book
 unfoldable pub well_formed : Outline → List ℕ → Answer Row
 unfolding laid_out checked
-well_formed o s = on_taken (laid_out o s) (λ k. checked (check (floats_fit k.measure (post_at s)) range ∷ []) k)
+well_formed o s = on_taken (laid_out o s) (λ k. checked (check (floats_fit k.measure (post_at s)) OutOfRange ∷ []) k)
 
 -- the amount of a post that is well formed, by its kind's measure and the management numbers: the quantity as stated, "g times content", or the loss of its form
 -- and floats over the substance's coefficient row, which 8 and 9 may decline
 unfoldable pub measured : Measure → List ℕ → Post → Answer ℕ
-measured Quantity numbers p = taken p.quantity
-measured Content numbers p = taken (p.quantity * p.content)
+measured Quantity numbers p = Ok p.quantity
+measured Content numbers p = Ok (p.quantity * p.content)
 measured Loss numbers p =
     loss_over p.material (row_of (get_or numbers p.substance 0)) (value_of p.w) (value_of p.u) (value_of p.p) (value_of p.q)
 
@@ -59,7 +58,7 @@ move_of Closes p n = Close
 
 -- the move of a post of a row's kind
 abbrev pub move_in : Row → List ℕ → Post → Answer Move
-move_in k numbers p = on_taken (measured k.measure numbers p) (λ n. taken (move_of k.does p n))
+move_in k numbers p = on_taken (measured k.measure numbers p) (λ n. Ok (move_of k.does p n))
 
 -- 6 to 9: what the bytes of a post move
 unfoldable pub move_at : Outline → List ℕ → List ℕ → Answer Move
@@ -77,8 +76,3 @@ closes (Issued m stage g) = false
 closes (Brought account stage s n) = false
 closes (Gone account stage s n) = false
 closes Close = true
-
--- what each case of the code's answer stands for
-abbrev pub answer : MoveRead → Answer Move
-answer (read.Known m) = taken m
-answer (read.Declined d) = declined d.number

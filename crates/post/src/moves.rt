@@ -1,28 +1,26 @@
 // What a post does is one value, a move.
-ghost use Rattle.std.specs.Prelude.{◌≡◌, [], ◌∷◌, ◌*◌, ◌^◌, ◌<◌, get_or};
-ghost use Rattle.amounts.specs.Decline.{check, checked, range};
-ghost use Rattle.losses.specs.Loss as losses;
-ghost use Rattle.layout.specs.Verdict.{verdict_of};
+ghost use Rattle.std.specs.Prelude.{◌≡◌, [], ◌∷◌, ◌*◌, ◌^◌, ◌<◌};
+ghost use Rattle.amounts.specs.Decline.{check, checked, verdict_of};
+ghost use Rattle.amounts.specs.declared.decline.Decline.TheVariants.{OutOfRange};
 ghost use Rattle.kinds.specs.Fields.{post_at};
 ghost use Rattle.kinds.specs.declared.kind.Measure.TheVariants.{Content};
-ghost use Rattle.post.specs.Moves.{floats_unused, floats_fit, move_of, laid_out, well_formed, move_at, closes, answer};
-ghost use Rattle.post.specs.Steps.{laid_of, laid_answer, amount_read};
+ghost use Rattle.post.specs.Moves.{floats_unused, floats_fit, move_of, laid_out, well_formed, move_at, closes};
+ghost use Rattle.post.specs.Steps.{laid_of, amount_read};
 
-use amounts::decline;
-use amounts::decline::Decline;
+use amounts::decline::{Decline, check};
+use forms::form::Inputs;
 use forms::{form, pattern};
+use kinds::account::Account;
 use kinds::fields::Post;
-use kinds::kind::{Does, KindRead, Measure};
+use kinds::kind::{Does, Measure};
 use kinds::{fields, kind};
 use layout::outline::Outline;
 use layout::posts::POST_SIZE;
-use layout::verdict::Verdict;
 use losses::loss;
-use losses::loss::Loss;
 
 // Received into a store; issued from a store to a stage's holdings; brought to an account from outside; gone from a holding to an
 // account; the close. Grams of a material, micrograms of a substance.
-#[derive(Clone, Copy)]
+#[derive(Clone, Copy, Debug, PartialEq, Eq)]
 pub enum Move {
     Received {
         material: usize,
@@ -34,13 +32,13 @@ pub enum Move {
         grams: u64,
     },
     Brought {
-        account: usize,
+        account: Account,
         stage: usize,
         substance: usize,
         amount: u64,
     },
     Gone {
-        account: usize,
+        account: Account,
         stage: usize,
         substance: usize,
         amount: u64,
@@ -56,176 +54,128 @@ struct Laid {
     does: Does,
 }
 
-#[derive(Clone, Copy)]
-enum LaidRead {
-    Known(Laid),
-    Declined(Decline),
-}
-
-#[derive(Clone, Copy)]
-pub enum MoveRead {
-    Known(Move),
-    Declined(Decline),
+fn floats_of(p: Post) -> Inputs<u64>
+    ensures { result ≡ record { w = p.w; u = p.u; p = p.p; q = p.q } }
+{
+    Inputs {
+        w: p.w,
+        u: p.u,
+        p: p.p,
+        q: p.q,
+    }
 }
 
 fn has_no_floats(p: Post) -> bool
     ensures { result ≡ floats_unused p }
 {
-    if !pattern::is_zero(p.w) {
-        return false;
-    }
-    if !pattern::is_zero(p.u) {
-        return false;
-    }
-    if !pattern::is_zero(p.p) {
-        return false;
-    }
-    pattern::is_zero(p.q)
-}
-
-// The management number at a place, 0 where there is none.
-fn number_at(numbers: &[u16], place: u8) -> u16
-    ensures { result ≡ get_or numbers.now place 0 }
-{
-    let i = place as usize;
-    if i >= numbers.len() {
-        return 0;
-    }
-    numbers[i]
+    pattern::is_zero(p.w) && pattern::is_zero(p.u) && pattern::is_zero(p.p) && pattern::is_zero(p.q)
 }
 
 // An amount where no float is used.
-fn stated(p: Post, n: u64) -> Loss
-    ensures { losses.answer result ≡ checked (check (floats_unused p) range ∷ []) n }
+#[tactic(auto, unfolding(amounts::specs::Decline::checked))]
+fn stated(p: Post, n: u64) -> Result<u64, Decline>
+    ensures { result ≡ checked (check (floats_unused p) OutOfRange ∷ []) n }
 {
-    if has_no_floats(p) {
-        return Loss::Micrograms(n);
-    }
-    Loss::Declined(decline::RANGE)
+    check(has_no_floats(p), Decline::OutOfRange)?;
+    Ok(n)
 }
 
-fn measure(m: Measure, numbers: &[u16], p: Post) -> Loss
-    requires { m ≡ Content → p.quantity * p.content < 2 ^ 64 }
-    ensures { losses.answer result ≡ amount_read m numbers.now p }
-{
-    match m {
-        Measure::Quantity => stated(p, p.quantity),
-        Measure::Content => stated(p, p.quantity * (p.content as u64)),
-        Measure::Loss => {
-            let number = number_at(numbers, p.substance);
-            loss::loss_by_number(p.material, number, p.w, p.u, p.p, p.q)
+impl Laid {
+    // Whether each float is in its range, by the measure of the post's kind.
+    fn floats_fit(self) -> bool
+        ensures { result ≡ floats_fit self.measure self.post }
+    {
+        match self.measure {
+            Measure::Quantity | Measure::Content => has_no_floats(self.post),
+            Measure::Loss => form::in_form(self.post.material, floats_of(self.post)),
         }
     }
-}
 
-fn move_of(does: Does, p: Post, n: u64) -> Move
-    ensures { result ≡ move_of does p n }
-{
-    match does {
-        Does::Receives => Move::Received {
-            material: p.material as usize,
-            grams: n,
-        },
-        Does::Issues => Move::Issued {
-            material: p.material as usize,
-            stage: p.stage as usize,
-            grams: n,
-        },
-        Does::Brings(account) => Move::Brought {
-            account,
-            stage: p.stage as usize,
-            substance: p.substance as usize,
-            amount: n,
-        },
-        Does::Leaves(account) => Move::Gone {
-            account,
-            stage: p.stage as usize,
-            substance: p.substance as usize,
-            amount: n,
-        },
-        Does::Closes => Move::Close,
+    // The amount, over the management numbers; a substance that has none there has 0.
+    #[tactic(auto, unfolding(crate::specs::Steps::amount_read))]
+    fn amount(self, numbers: &[u16]) -> Result<u64, Decline>
+        requires { self.measure ≡ Content → self.post.quantity * self.post.content < 2 ^ 64 }
+        ensures { result ≡ amount_read self.measure numbers.now self.post }
+    {
+        let post = self.post;
+        match self.measure {
+            Measure::Quantity => stated(post, post.quantity),
+            Measure::Content => stated(post, post.quantity * u64::from(post.content)),
+            Measure::Loss => {
+                let number = numbers.get(usize::from(post.substance));
+                loss::loss_by_number(post.material, number.copied().unwrap_or(0), floats_of(post))
+            }
+        }
+    }
+
+    fn move_of(self, n: u64) -> Move
+        ensures { result ≡ move_of self.does self.post n }
+    {
+        let material = usize::from(self.post.material);
+        let stage = usize::from(self.post.stage);
+        let substance = usize::from(self.post.substance);
+        match self.does {
+            Does::Receives => Move::Received { material, grams: n },
+            Does::Issues => Move::Issued {
+                material,
+                stage,
+                grams: n,
+            },
+            Does::Brings(account) => Move::Brought {
+                account,
+                stage,
+                substance,
+                amount: n,
+            },
+            Does::Leaves(account) => Move::Gone {
+                account,
+                stage,
+                substance,
+                amount: n,
+            },
+            Does::Closes => Move::Close,
+        }
     }
 }
 
 // The post that bytes lay out, by an outline: declined by 6.
-fn read_post(o: Outline, s: &[u8]) -> LaidRead
-    ensures { laid_answer result ≡ laid_of (post_at s.now) (laid_out o s.now) }
+#[tactic(auto, using(crate::proofs::moves::Laws::laid_read, std::proofs::lemmas::Grind::common_steps))]
+fn read_post(o: Outline, s: &[u8]) -> Result<Laid, Decline>
+    ensures { result ≡ laid_of (post_at s.now) (laid_out o s.now) }
 {
-    if s.len() != POST_SIZE {
-        return LaidRead::Declined(decline::LAYOUT);
-    }
-    let p = fields::decode(s);
-    let KindRead::Known(k) = kind::kind_of(o, p.kind) else {
-        return LaidRead::Declined(decline::LAYOUT);
-    };
-    let limits = k.limits;
-    if !kind::fields_fit(limits, p) {
-        return LaidRead::Declined(decline::LAYOUT);
-    }
-    let by = k.measure;
-    let does = k.does;
-    LaidRead::Known(Laid {
-        post: p,
-        measure: by,
-        does,
+    check(s.len() == POST_SIZE, Decline::Layout)?;
+    let post = fields::decode(s);
+    let kind = kind::kind_of(o, post.kind)?;
+    check(kind.limits.admit(&post), Decline::Layout)?;
+    Ok(Laid {
+        post,
+        measure: kind.measure,
+        does: kind.does,
     })
 }
 
-// Whether each float is in its range, by the measure of the post's kind.
-fn floats_fit(m: Measure, p: Post) -> bool
-    ensures { result ≡ floats_fit m p }
-{
-    match m {
-        Measure::Quantity => has_no_floats(p),
-        Measure::Content => has_no_floats(p),
-        Measure::Loss => form::in_form(p.material, p.w, p.u, p.p, p.q),
-    }
-}
-
 // Whether the bytes of a post are well formed, by an outline: declined by 6 and 7, which need no book.
-pub fn check_post(o: Outline, s: &[u8]) -> Verdict
+#[tactic(auto, unfolding(amounts::specs::Decline::checked, crate::specs::Moves::well_formed))]
+pub fn check_post(o: Outline, s: &[u8]) -> Result<(), Decline>
     ensures { result ≡ verdict_of (well_formed o s.now) }
 {
-    match read_post(o, s) {
-        LaidRead::Known(l) => {
-            let p = l.post;
-            let by = l.measure;
-            if floats_fit(by, p) {
-                return Verdict::Accepted;
-            }
-            Verdict::Declined(decline::RANGE)
-        }
-        LaidRead::Declined(d) => Verdict::Declined(d),
-    }
+    let laid = read_post(o, s)?;
+    check(laid.floats_fit(), Decline::OutOfRange)
 }
 
 // What the bytes of a post move, by an outline and the management numbers: declined by 6 to 9.
-pub fn read_move(o: Outline, numbers: &[u16], s: &[u8]) -> MoveRead
-    ensures { answer result ≡ move_at o numbers.now s.now }
+#[tactic(auto, using(crate::proofs::moves::Laws::move_read, crate::proofs::moves::Laws::product_fits))]
+pub fn read_move(o: Outline, numbers: &[u16], s: &[u8]) -> Result<Move, Decline>
+    ensures { result ≡ move_at o numbers.now s.now }
 {
-    match read_post(o, s) {
-        LaidRead::Known(l) => {
-            let p = l.post;
-            let by = l.measure;
-            let does = l.does;
-            match measure(by, numbers, p) {
-                Loss::Micrograms(n) => MoveRead::Known(move_of(does, p, n)),
-                Loss::Declined(d) => MoveRead::Declined(d),
-            }
-        }
-        LaidRead::Declined(d) => MoveRead::Declined(d),
-    }
+    let laid = read_post(o, s)?;
+    let amount = laid.amount(numbers)?;
+    Ok(laid.move_of(amount))
 }
 
 // Whether no post follows.
 pub fn closes(m: Move) -> bool
     ensures { result ≡ closes m }
 {
-    match m {
-        Move::Received { .. } => false,
-        Move::Issued { .. } => false,
-        Move::Brought { .. } => false,
-        Move::Gone { .. } => false,
-        Move::Close => true,
-    }
+    matches!(m, Move::Close)
 }

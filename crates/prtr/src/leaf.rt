@@ -8,12 +8,27 @@ ghost use Rattle.amounts.specs.Threshold.{due_of};
 ghost use Rattle.amounts.specs.Treatment.{split_of};
 ghost use Rattle.prtr.specs.Host.{number_of, lent, one_or_zero};
 
-use amounts::content::Counted;
-use amounts::threshold::Due;
-use amounts::treatment::Split;
-use amounts::{content, filed, threshold, treatment};
-use losses::loss;
-use losses::loss::Loss;
+use amounts::content::counted_content;
+use amounts::decline::Decline;
+use amounts::filed;
+use amounts::threshold::is_due;
+use amounts::treatment::split_total;
+use forms::form::Inputs;
+use losses::loss::vapour_loss;
+
+// What is answered goes to a lent place, and a decline's number to the caller.
+fn lend<T: Copy>(answer: Result<T, Decline>, place: &mut T) -> u8
+    ensures value { result ≡ number_of answer }
+    ensures place_after { place.new ≡ lent (λ a. a) place.old answer }
+{
+    match answer {
+        Ok(value) => {
+            *place = value;
+            0
+        }
+        Err(decline) => decline.number(),
+    }
+}
 
 // The content in ppm that counts for a substance of the class.
 #[unsafe(no_mangle)]
@@ -21,13 +36,7 @@ pub extern "C" fn prtr_counted(class: u8, ppm: u32, counted: &mut u32) -> u8
     ensures value { result ≡ number_of (counted_of class ppm) }
     ensures counted_after { counted.new ≡ lent (λ n. n) counted.old (counted_of class ppm) }
 {
-    match content::counted_content(class, ppm) {
-        Counted::Content(n) => {
-            *counted = n;
-            0
-        }
-        Counted::Declined(d) => d.number,
-    }
+    lend(counted_content(class, ppm), counted)
 }
 
 // The parts of a gas or waste-water total in micrograms at a removal and a destruction in ppm.
@@ -45,14 +54,14 @@ pub extern "C" fn prtr_split(
     ensures destroyed_after { destroyed.new ≡ lent (λ p. p.destroyed) destroyed.old (split_of total removal destruction) }
     ensures residue_after { residue.new ≡ lent (λ p. p.residue) residue.old (split_of total removal destruction) }
 {
-    match treatment::split_total(total, removal, destruction) {
-        Split::Into(parts) => {
+    match split_total(total, removal, destruction) {
+        Ok(parts) => {
             *released = parts.released;
             *destroyed = parts.destroyed;
             *residue = parts.residue;
             0
         }
-        Split::Declined(d) => d.number,
+        Err(decline) => decline.number(),
     }
 }
 
@@ -89,17 +98,7 @@ pub extern "C" fn prtr_due(class: u8, handled: u64, due: &mut u8) -> u8
     ensures value { result ≡ number_of (due_of class handled) }
     ensures due_after { due.new ≡ lent one_or_zero due.old (due_of class handled) }
 {
-    match threshold::is_due(class, handled) {
-        Due::Yes => {
-            *due = 1;
-            0
-        }
-        Due::No => {
-            *due = 0;
-            0
-        }
-        Due::Declined(d) => d.number,
-    }
+    lend(is_due(class, handled).map(u8::from), due)
 }
 
 // The vapour loss in micrograms of a form, a management number and four floats by their bits.
@@ -116,11 +115,5 @@ pub extern "C" fn prtr_loss(
     ensures value { result ≡ number_of (vapour_of form number (value_of w) (value_of u) (value_of p) (value_of q)) }
     ensures micrograms_after { micrograms.new ≡ lent (λ n. n) micrograms.old (vapour_of form number (value_of w) (value_of u) (value_of p) (value_of q)) }
 {
-    match loss::vapour_loss(form, number, w, u, p, q) {
-        Loss::Micrograms(n) => {
-            *micrograms = n;
-            0
-        }
-        Loss::Declined(d) => d.number,
-    }
+    lend(vapour_loss(form, number, Inputs { w, u, p, q }), micrograms)
 }

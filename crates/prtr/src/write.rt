@@ -3,8 +3,7 @@ ghost use Rattle.std.specs.Prelude.{◌≡◌};
 ghost use Rattle.records.specs.Batch.{written_in, left_in};
 ghost use Rattle.prtr.specs.Write.{status_of, length_or, place_or};
 
-use records::batch;
-use records::batch::WriteEnd;
+use records::batch::write_records;
 
 // The journal of the records at the start of a lent buffer: 0, and its length in a lent place. Or the decline's number, or 255, of the first record that isn't taken, and
 // its place from 0 in the other lent place; then the buffer is as before.
@@ -20,14 +19,14 @@ pub extern "C" fn prtr_write(
     ensures written_after { written.new ≡ length_or written.old (written_in journal.old records.now) }
     ensures place_after { place.new ≡ place_or place.old (written_in journal.old records.now) }
 {
-    match batch::write_records(records, journal) {
-        WriteEnd::Written(n) => {
+    match write_records(records, journal) {
+        Ok(n) => {
             *written = n;
             0
         }
-        WriteEnd::Stopped { number, place: at } => {
-            *place = at;
-            number
+        Err(stopped) => {
+            *place = stopped.place;
+            stopped.refusal.number()
         }
     }
 }

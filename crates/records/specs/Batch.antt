@@ -1,28 +1,30 @@
 -- What a new writer over a lent buffer makes of a list of records.
-use Rattle.std.specs.Prelude.{ℕ, suc, ◌≡◌, List, [], ◌∷◌, map}
-use Rattle.amounts.specs.Decline.{Answer, taken, declined}
+use Rattle.std.specs.Prelude.{ℕ, suc, ◌≡◌, List, [], ◌∷◌, map, Result, Ok, Err}
+use Rattle.amounts.specs.Decline.{Answer}
 use Rattle.pages.specs.Page.{Page, fresh_page, ended}
 use Rattle.pages.specs.Calls.{Call, answer_to, run, accepted}
 use Rattle.records.specs.Records.{Recorded, call, malformed, records_in}
-use Rattle.records.specs.declared.batch.WriteEnd.{WriteEnd}
-use Rattle.records.specs.declared.batch.WriteEnd.TheVariants.{Written, Stopped}
+use Rattle.records.specs.declared.batch.Stopped.{Stopped}
+use Rattle.records.specs.declared.refusal.Refusal.{Refusal}
+use Rattle.records.specs.declared.refusal.Refusal.TheVariants.{Declined, Malformed}
 
--- the number that stands for a malformed record; no decline has it
-abbrev pub malformed_number : ℕ
-malformed_number = 255
+-- a decline refuses the record
+abbrev pub refused : {A : Type 0} → Answer A → Result A Refusal
+refused (Ok a) = Ok a
+refused (Err d) = Err (Declined d)
 
-abbrev pub record_on : Page → Recorded → Answer Page
-record_on p (call c) = answer_to p c
-record_on p malformed = declined malformed_number
+abbrev pub record_on : Page → Recorded → Result Page Refusal
+record_on p (call c) = refused (answer_to p c)
+record_on p malformed = Err Malformed
 
--- the page after the last record and an end, or the first record that is declined or malformed: its place from 0, and the number
+-- the page after the last record and an end, or the first record that is declined or malformed: its place from 0, and why
 pub data Outcome : Type 0 where
   complete : Page → Outcome
-  stopped : ℕ → ℕ → Outcome
+  stopped : ℕ → Refusal → Outcome
 
-abbrev pub onward : Answer Page → ℕ → (Page → Outcome) → Outcome
-onward (taken q) place next = next q
-onward (declined n) place next = stopped place n
+abbrev pub onward : Result Page Refusal → ℕ → (Page → Outcome) → Outcome
+onward (Ok q) place next = next q
+onward (Err why) place next = stopped place why
 
 unfoldable pub write_all : Page → ℕ → List Recorded → Outcome
 unfolding ended
@@ -51,11 +53,11 @@ BatchIsItsCalls =
 
 -- ---- what the code returns for an outcome, and what it leaves in the buffer
 
-abbrev pub end_of : Outcome → WriteEnd
-end_of (complete p) = Written p.filled
-end_of (stopped place n) = Stopped n place
+abbrev pub end_of : Outcome → Result ℕ Stopped
+end_of (complete p) = Ok p.filled
+end_of (stopped place why) = Err (record { refusal = why; place = place })
 
 -- a stop leaves the buffer as it was lent
 abbrev pub left_in : List ℕ → Outcome → List ℕ
 left_in lent (complete p) = p.bytes
-left_in lent (stopped place n) = lent
+left_in lent (stopped place why) = lent

@@ -1,3 +1,4 @@
 pub mod Records
+pub mod Refusal
 pub mod Batch
-pub mod Counting
+pub mod Recorder

@@ -3,5 +3,6 @@
 
 pub mod batch;
 pub mod call;
-mod counting;
 pub mod record;
+pub mod recorder;
+pub mod refusal;

@@ -1,89 +1,76 @@
-// The parts of a line. A field of a report has a space before it.
-use layout::verdict::Verdict;
-use report::fate::{Fate, Headings};
-use report::report::{Filing, Report, Reported};
-use stock::sheet::{Difference, magnitude};
-use streams::output::{Output, number, text};
+// The lines. A field of a report has a space before it.
+use amounts::decline::Decline;
+use report::fate::Headings;
+use report::report::Report;
+use std::io;
+use std::io::Write;
 
-fn field(o: Output, n: u64) -> Output {
-    number(text(o, b" "), n)
+/// 0 where the call was accepted, and else the decline's number.
+pub(crate) fn verdict<W: Write>(
+    out: &mut W,
+    call: &str,
+    answer: Result<(), Decline>,
+) -> io::Result<()> {
+    let number = match answer {
+        Ok(()) => 0,
+        Err(decline) => decline.number(),
+    };
+    writeln!(out, "{call} {number}")
 }
 
-fn last(o: Output, n: u8) -> Output {
-    text(number(o, n as u64), b"\n")
-}
-
-// 0 where the call was accepted, and else the decline's number.
-pub(crate) fn verdict(o: Output, v: Verdict) -> Output {
-    match v {
-        Verdict::Accepted => last(o, 0),
-        Verdict::Declined(d) => last(o, d.number),
-    }
-}
-
-fn signed(o: Output, n: i64) -> Output {
-    if n > 0 {
-        return text(o, b"+");
-    }
-    if n < 0 {
-        return text(o, b"-");
-    }
-    o
-}
-
-pub(crate) fn stock(o: Output, answer: Difference) -> Output {
-    let o = text(o, b"stock ");
+pub(crate) fn stock<W: Write>(out: &mut W, answer: Result<i64, Decline>) -> io::Result<()> {
     match answer {
-        Difference::Grams(n) => text(number(signed(o, n), magnitude(n)), b"\n"),
-        Difference::Declined(d) => last(text(o, b"declined "), d.number),
+        Ok(0) => writeln!(out, "stock 0"),
+        Ok(grams) => writeln!(out, "stock {grams:+}"),
+        Err(decline) => writeln!(out, "stock declined {}", decline.number()),
     }
 }
 
-fn headings(o: Output, h: Headings) -> Output {
-    let o = field(o, h.air);
-    let o = field(o, h.water);
-    let o = field(o, h.soil);
-    let o = field(o, h.land);
-    let o = field(o, h.sewer);
-    field(o, h.offsite)
+fn headings<W: Write>(out: &mut W, h: Headings) -> io::Result<()> {
+    let Headings {
+        air,
+        water,
+        soil,
+        land,
+        sewer,
+        offsite,
+    } = h;
+    write!(out, " {air} {water} {soil} {land} {sewer} {offsite}")
 }
 
-fn amounts(o: Output, fate: Fate) -> Output {
-    let o = field(o, fate.held);
-    let o = field(o, fate.shipped);
-    let o = field(o, fate.consumed);
-    let o = field(o, fate.destroyed);
-    let h = fate.headings;
-    headings(o, h)
-}
-
-fn filing(o: Output, f: Filing) -> Output {
-    match f {
-        Filing::Figures(h) => headings(o, h),
-        Filing::NotDue => text(o, b" - - - - - -"),
+fn known<W: Write>(out: &mut W, r: Report) -> io::Result<()> {
+    let Report {
+        posts,
+        number,
+        handled,
+        due,
+        store,
+        fate,
+        filed,
+    } = r;
+    let due = if due { 'Y' } else { 'N' };
+    write!(out, " {posts} {number} {handled} {due} {store}")?;
+    write!(
+        out,
+        " {} {} {} {}",
+        fate.held, fate.shipped, fate.consumed, fate.destroyed
+    )?;
+    headings(out, fate.headings)?;
+    match filed {
+        Some(figures) => headings(out, figures)?,
+        None => write!(out, " - - - - - -")?,
     }
+    writeln!(out)
 }
 
-fn yes_no(o: Output, due: bool) -> Output {
-    if due { text(o, b" Y") } else { text(o, b" N") }
-}
-
-fn known(o: Output, r: Report) -> Output {
-    let fate = r.fate;
-    let f = r.filed;
-    let o = field(o, r.posts as u64);
-    let o = field(o, r.number as u64);
-    let o = field(o, r.handled);
-    let o = yes_no(o, r.due);
-    let o = field(o, r.store);
-    let o = filing(amounts(o, fate), f);
-    text(o, b"\n")
-}
-
-pub(crate) fn report(o: Output, place: u64, answer: Reported) -> Output {
-    let o = field(text(o, b"report"), place);
+pub(crate) fn report<W: Write>(
+    out: &mut W,
+    place: u8,
+    answer: Result<Report, Decline>,
+) -> io::Result<()> {
+    write!(out, "report {place}")?;
     match answer {
-        Reported::Known(r) => known(o, r),
-        Reported::Declined(d) => last(text(o, b" "), d.number),
+        Ok(report) => known(out, report),
+        Err(decline) => writeln!(out, " {}", decline.number()),
     }
 }

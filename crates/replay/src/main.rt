@@ -4,25 +4,37 @@
 mod call;
 mod line;
 
-use book::site;
-use streams::{input, output, record, trouble};
+use book::site::Book;
+use call::Call;
+use std::io::{Read, Write};
+use streams::input::Input;
+use streams::output::Output;
+use streams::record::RecordError;
+use streams::trouble::Trouble;
+
+/// Up to the end of the input, or to a record that is malformed or no call.
+fn run<R: Read, W: Write>(from: &mut R, to: &mut W) -> Result<(), Trouble> {
+    let mut book = Book::new();
+    let mut input = Input::new(from);
+    let mut output = Output::new(to);
+    let mut space = [0; 65536];
+    loop {
+        let call = match input.read_record(&mut space) {
+            Ok(None) => return Ok(()),
+            Ok(Some(record)) => Call::of(record),
+            Err(RecordError::Malformed) => None,
+            Err(RecordError::Unread(_)) => return Err(Trouble::Unread),
+        };
+        let Some(call) = call else {
+            return writeln!(output, "malformed").map_err(|_| Trouble::Unwritten);
+        };
+        call.answer(&mut book, &mut output)
+            .map_err(|_| Trouble::Unwritten)?;
+    }
+}
 
 fn main(rt: HostRuntime) {
-    let mut book = site::fresh();
-    let mut source = input::start(rt.stdin());
-    let mut sink = output::start(rt.stdout());
-    let mut space = [0u8; 65536];
-    let mut is_open = true;
-    while is_open {
-        let found = record::next(source, &mut space);
-        source = found.input;
-        let record = found.record;
-        let state = call::answer(book, sink, rt.stderr(), record, &space);
-        book = state.book;
-        sink = state.output;
-        is_open = state.is_open;
-    }
-    if output::has_failed(sink) {
-        trouble::unwritten(rt.stderr(), b"replay");
+    if let Err(trouble) = run(&mut rt.stdin(), &mut rt.stdout()) {
+        let _ = eprintln!(rt; "replay: {trouble}");
     }
 }

@@ -1,12 +1,12 @@
 -- The fate of a substance: what a report shows of it but the store (document 01, "Treatment and report").
-use Rattle.std.specs.Prelude.{ℕ, ◌+◌, ◌*◌, Bool, true, false, List, get_or}
+use Rattle.std.specs.Prelude.{ℕ, ◌+◌, ◌*◌, Bool, false, cond, List, get_or}
 use Rattle.amounts.specs.Treatment.{parts_of}
 use Rattle.amounts.specs.declared.treatment.Parts.{Parts}
 use Rattle.encoding.specs.Each.{sum_to}
 use Rattle.plant.specs.Setup.{no_rates}
 use Rattle.plant.specs.declared.setup.Rates.{Rates}
 use Rattle.plant.specs.declared.setup.Setup.{Setup}
-use Rattle.kinds.specs.Account.{held, shipped, off_site, landfill, soil, consumed, gas, water, vapour}
+use Rattle.kinds.specs.declared.account.Account.TheVariants.{Held, Shipped, OffSite, Landfill, Soil, Consumed, Gas, Water, Vapour}
 use Rattle.book.specs.Ledger.{cell}
 use Rattle.report.specs.declared.fate.Cells.{Cells}
 use Rattle.report.specs.declared.fate.Headings.{Headings}
@@ -14,21 +14,17 @@ use Rattle.report.specs.declared.fate.Fate.{Fate}
 
 -- "Treated water goes to public water or sewer": an amount of it, by whether the stage's goes to the sewer
 abbrev pub to_sewer : Bool → ℕ → ℕ
-to_sewer true n = n
-to_sewer false n = 0
+to_sewer sewer n = cond sewer n 0
 
 abbrev pub to_public_water : Bool → ℕ → ℕ
-to_public_water true n = 0
-to_public_water false n = n
+to_public_water sewer n = cond sewer 0 n
 
 -- "residues to off site or landfill": by whether the stage's go to landfill
 abbrev pub to_landfill : Bool → ℕ → ℕ
-to_landfill true n = n
-to_landfill false n = 0
+to_landfill landfill n = cond landfill n 0
 
 abbrev pub to_off_site : Bool → ℕ → ℕ
-to_off_site true n = 0
-to_off_site false n = n
+to_off_site landfill n = cond landfill 0 n
 
 -- the rates of a stage and a substance
 abbrev pub rates_of : Setup → ℕ → ℕ → Rates
@@ -38,15 +34,15 @@ rates_of u stage s = get_or u.rates (stage * 8 + s) no_rates
 abbrev pub cells_of : List ℕ → ℕ → ℕ → Cells
 cells_of sums stage s =
     record {
-      held = cell sums held stage s;
-      shipped = cell sums shipped stage s;
-      off_site = cell sums off_site stage s;
-      landfill = cell sums landfill stage s;
-      soil = cell sums soil stage s;
-      consumed = cell sums consumed stage s;
-      gas = cell sums gas stage s;
-      water = cell sums water stage s;
-      vapour = cell sums vapour stage s;
+      held = cell sums Held stage s;
+      shipped = cell sums Shipped stage s;
+      off_site = cell sums OffSite stage s;
+      landfill = cell sums Landfill stage s;
+      soil = cell sums Soil stage s;
+      consumed = cell sums Consumed stage s;
+      gas = cell sums Gas stage s;
+      water = cell sums Water stage s;
+      vapour = cell sums Vapour stage s;
     }
 
 -- Of a stage, with its gas and its waste water as split: "air (gas released and vapour), public water, soil, landfill, sewer, off site. Treated water goes to

@@ -1,24 +1,20 @@
 -- The report of a substance (document 01, "Treatment and report").
-use Rattle.std.specs.Prelude.{ℕ, Bool, true, false, [], ◌∷◌, ltb, get_or}
-use Rattle.amounts.specs.Decline.{Answer, taken, declined, check, checked, value_or, no_substance}
+use Rattle.std.specs.Prelude.{ℕ, Bool, true, false, [], ◌∷◌, ltb, get_or, Option, Some, None}
+use Rattle.amounts.specs.Decline.{Answer, check, checked, value_or}
+use Rattle.amounts.specs.declared.decline.Decline.TheVariants.{NoSubstance}
 use Rattle.amounts.specs.Filed.{filed_of}
 use Rattle.amounts.specs.Threshold.{due_of}
 use Rattle.plant.specs.declared.setup.Setup.{Setup}
-use Rattle.book.specs.Site.{stored}
-use Rattle.book.specs.declared.site.Book.{Book}
+use Rattle.book.specs.Site.{Book, stored}
 use Rattle.book.specs.declared.site.Year.{Year}
 use Rattle.report.specs.Fate.{fate_to, map_headings}
 use Rattle.report.specs.declared.fate.Headings.{Headings}
-use Rattle.report.specs.declared.report.Filing.{Filing}
-use Rattle.report.specs.declared.report.Filing.TheVariants.{Figures, NotDue}
 use Rattle.report.specs.declared.report.Report.{Report}
-use Rattle.report.specs.declared.report.Reported as reported
-use Rattle.report.specs.declared.report.Reported.TheVariants.{Known, Declined}
 
 -- "A filed figure is the heading's amount rounded half up to a step"; "A substance not due has no filed figures."
-abbrev pub filing_of : Bool → Headings → Filing
-filing_of true h = Figures (map_headings filed_of h)
-filing_of false h = NotDue
+abbrev pub filing_of : Bool → Headings → Option Headings
+filing_of true h = Some (map_headings filed_of h)
+filing_of false h = None
 
 abbrev pub due_in : Setup → Year → ℕ → Bool
 due_in u y s = value_or false (due_of (get_or u.classes s 0) (get_or y.handled s 0))
@@ -43,9 +39,4 @@ report_at b s = report_in b.setup b.year s
 -- "declined by 12 alone, never for a substance that the book has"
 unfoldable pub report_of : Book → ℕ → Answer Report
 unfolding checked fate_to
-report_of b s = checked (check (ltb s b.setup.outline.substances) no_substance ∷ []) (report_at b s)
-
--- what each case of the code's answer stands for
-abbrev pub answer : reported.Reported → Answer Report
-answer (Known r) = taken r
-answer (Declined d) = declined d.number
+report_of b s = checked (check (ltb s b.setup.outline.substances) NoSubstance ∷ []) (report_at b s)

@@ -1,18 +1,17 @@
 // The fate of a substance: what a report shows of it but the store, at a stage and over all stages.
-ghost use Rattle.std.specs.Prelude.{◌≡◌, ◌+◌, ◌^◌, ◌≤◌, ◌<◌};
+ghost use Rattle.std.specs.Prelude.{◌≡◌, ◌^◌, ◌≤◌, ◌<◌};
 ghost use Rattle.amounts.specs.Treatment.{parts_of};
 ghost use Rattle.book.specs.Ledger.{total};
 ghost use Rattle.plant.specs.Setup.{Rated, SoundSetup};
-ghost use Rattle.report.specs.Fate.{to_sewer, to_public_water, to_landfill, to_off_site, rates_of, cells_of, fate_from, stage_fate, fate_to, six_of, weigh};
-ghost use Rattle.report.specs.Steps.{add_headings, add_fates};
+ghost use Rattle.report.specs.Fate.{to_sewer, to_public_water, rates_of, cells_of, fate_from, stage_fate, fate_to, weigh};
 
-use amounts::treatment;
-use amounts::treatment::{Parts, Split};
-use kinds::account;
+use amounts::treatment::{Parts, split_total};
+use kinds::account::Account;
 use plant::setup::Setup;
+use std::ops::Add;
 
-// In micrograms.
-#[derive(Clone, Copy)]
+// What is released under the six headings of a return, in micrograms.
+#[derive(Clone, Copy, Debug, Default, PartialEq, Eq)]
 pub struct Headings {
     pub air: u64,
     pub water: u64,
@@ -22,13 +21,79 @@ pub struct Headings {
     pub offsite: u64,
 }
 
-#[derive(Clone, Copy)]
+impl Headings {
+    ghost use Rattle.std.specs.Prelude.{◌≡◌};
+    ghost use Rattle.report.specs.Steps.{EachHeading};
+
+    // Each heading through a function.
+    pub(crate) fn map<F: Fn(u64) -> u64>(self, f: F) -> Headings
+        requires { F.IsAlwaysCallable f }
+        ensures { EachHeading (F.post f) self result }
+    {
+        Headings {
+            air: f(self.air),
+            water: f(self.water),
+            soil: f(self.soil),
+            land: f(self.land),
+            sewer: f(self.sewer),
+            offsite: f(self.offsite),
+        }
+    }
+}
+
+impl Add for Headings {
+    ghost use Rattle.std.specs.Prelude.{◌≡◌, ◌+◌, ◌^◌, ◌<◌};
+    ghost use Rattle.report.specs.Fate.{six_of};
+    ghost use Rattle.report.specs.Steps.{add_headings};
+
+    type Output = Headings;
+
+    ghost can_add = { λ x y. six_of x + six_of y < 2 ^ 64 };
+
+    ghost add_gives = { λ x y r. r ≡ add_headings x y };
+
+    fn add(self, other: Headings) -> Headings {
+        Headings {
+            air: self.air + other.air,
+            water: self.water + other.water,
+            soil: self.soil + other.soil,
+            land: self.land + other.land,
+            sewer: self.sewer + other.sewer,
+            offsite: self.offsite + other.offsite,
+        }
+    }
+}
+
+// What a report shows of a substance but the store, in micrograms.
+#[derive(Clone, Copy, Debug, Default, PartialEq, Eq)]
 pub struct Fate {
     pub held: u64,
     pub shipped: u64,
     pub consumed: u64,
     pub destroyed: u64,
     pub headings: Headings,
+}
+
+impl Add for Fate {
+    ghost use Rattle.std.specs.Prelude.{◌≡◌, ◌+◌, ◌^◌, ◌<◌};
+    ghost use Rattle.report.specs.Fate.{weigh};
+    ghost use Rattle.report.specs.Steps.{add_fates};
+
+    type Output = Fate;
+
+    ghost can_add = { λ x y. weigh x + weigh y < 2 ^ 64 };
+
+    ghost add_gives = { λ x y r. r ≡ add_fates x y };
+
+    fn add(self, other: Fate) -> Fate {
+        Fate {
+            held: self.held + other.held,
+            shipped: self.shipped + other.shipped,
+            consumed: self.consumed + other.consumed,
+            destroyed: self.destroyed + other.destroyed,
+            headings: self.headings + other.headings,
+        }
+    }
 }
 
 // What a stage's accounts hold of a substance.
@@ -50,160 +115,88 @@ fn cells_of(sums: &[u64; 576], stage: usize, s: usize) -> Cells
     ensures { result ≡ cells_of sums.now stage s }
 {
     let pair = stage * 8 + s;
+    let cell = |account: Account| sums[account as usize * 64 + pair];
     Cells {
-        held: sums[account::HELD * 64 + pair],
-        shipped: sums[account::SHIPPED * 64 + pair],
-        off_site: sums[account::OFF_SITE * 64 + pair],
-        landfill: sums[account::LANDFILL * 64 + pair],
-        soil: sums[account::SOIL * 64 + pair],
-        consumed: sums[account::CONSUMED * 64 + pair],
-        gas: sums[account::GAS * 64 + pair],
-        water: sums[account::WATER * 64 + pair],
-        vapour: sums[account::VAPOUR * 64 + pair],
+        held: cell(Account::Held),
+        shipped: cell(Account::Shipped),
+        off_site: cell(Account::OffSite),
+        landfill: cell(Account::Landfill),
+        soil: cell(Account::Soil),
+        consumed: cell(Account::Consumed),
+        gas: cell(Account::Gas),
+        water: cell(Account::Water),
+        vapour: cell(Account::Vapour),
     }
 }
 
+// A split at rates that a set-up has, which is never declined.
+#[tactic(auto, unfolding(amounts::specs::Treatment::split_of, amounts::specs::Decline::checked))]
 fn parts_of(total: u64, removal: u32, destruction: u32) -> Parts
     requires { (removal ≤ 1000000) × (destruction ≤ 1000000) }
     ensures { result ≡ parts_of total removal destruction }
 {
-    match treatment::split_total(total, removal, destruction) {
-        Split::Into(parts) => parts,
-        Split::Declined(_) => Parts {
-            released: total,
-            destroyed: 0,
-            residue: 0,
-        },
-    }
+    split_total(total, removal, destruction).unwrap()
 }
 
-fn to_sewer(sewer: bool, n: u64) -> u64
-    ensures { result ≡ to_sewer sewer n }
+// An amount goes to the first of two destinations, or to the second.
+fn divided(to_first: bool, n: u64) -> (u64, u64)
+    ensures first { result.0 ≡ to_sewer to_first n }
+    ensures second { result.1 ≡ to_public_water to_first n }
 {
-    if sewer { n } else { 0 }
-}
-
-fn to_public_water(sewer: bool, n: u64) -> u64
-    ensures { result ≡ to_public_water sewer n }
-{
-    if sewer { 0 } else { n }
-}
-
-fn to_landfill(landfill: bool, n: u64) -> u64
-    ensures { result ≡ to_landfill landfill n }
-{
-    if landfill { n } else { 0 }
-}
-
-fn to_off_site(landfill: bool, n: u64) -> u64
-    ensures { result ≡ to_off_site landfill n }
-{
-    if landfill { 0 } else { n }
+    if to_first { (n, 0) } else { (0, n) }
 }
 
 // At a stage, with its gas and its waste water as split.
+#[tactic(auto, using(crate::proofs::fate::Laws::residue_goes))]
 fn fate_from(c: Cells, gas: Parts, water: Parts, sewered: bool, landfilled: bool) -> Fate
     requires { weigh (fate_from c gas water sewered landfilled) < 2 ^ 64 }
     ensures { result ≡ fate_from c gas water sewered landfilled }
 {
-    let residue = gas.residue + water.residue;
-    let destroyed = gas.destroyed + water.destroyed;
-    let air = gas.released + c.vapour;
-    let clean = to_public_water(sewered, water.released);
-    let sewer = to_sewer(sewered, water.released);
-    let offsite = c.off_site + to_off_site(landfilled, residue);
-    let land = c.landfill + to_landfill(landfilled, residue);
+    let (sewer, public) = divided(sewered, water.released);
+    let (landfill, off_site) = divided(landfilled, gas.residue + water.residue);
     Fate {
         held: c.held,
         shipped: c.shipped,
         consumed: c.consumed,
-        destroyed,
+        destroyed: gas.destroyed + water.destroyed,
         headings: Headings {
-            air,
-            water: clean,
+            air: gas.released + c.vapour,
+            water: public,
             soil: c.soil,
-            land,
+            land: c.landfill + landfill,
             sewer,
-            offsite,
+            offsite: c.off_site + off_site,
         },
     }
 }
 
-fn stage_fate(sums: &[u64; 576], setup: Setup, s: usize, stage: usize) -> Fate
-    requires stage_bound { (stage < 8) × (s < 8) }
-    requires rated { Rated (rates_of setup stage s) }
-    requires stage_bound_2 { weigh (stage_fate sums.now setup s stage) < 2 ^ 64 }
-    ensures { result ≡ stage_fate sums.now setup s stage }
+fn stage_fate(sums: &[u64; 576], setup: &Setup, s: usize, stage: usize) -> Fate
+    requires places { (stage < 8) × (s < 8) }
+    requires sound_setup { SoundSetup setup.now }
+    requires fits { weigh (stage_fate sums.now setup.now s stage) < 2 ^ 64 }
+    ensures { result ≡ stage_fate sums.now setup.now s stage }
 {
     let c = cells_of(sums, stage, s);
     let r = setup.rates[stage * 8 + s];
-    let gas = parts_of(c.gas, r.gas_removal, r.gas_destruction);
-    let water = parts_of(c.water, r.water_removal, r.water_destruction);
     fate_from(
         c,
-        gas,
-        water,
+        parts_of(c.gas, r.gas_removal, r.gas_destruction),
+        parts_of(c.water, r.water_removal, r.water_destruction),
         setup.to_sewer[stage],
         setup.to_landfill[stage],
     )
 }
 
-fn add_headings(x: Headings, y: Headings) -> Headings
-    requires { six_of x + six_of y < 2 ^ 64 }
-    ensures { result ≡ add_headings x y }
-{
-    Headings {
-        air: x.air + y.air,
-        water: x.water + y.water,
-        soil: x.soil + y.soil,
-        land: x.land + y.land,
-        sewer: x.sewer + y.sewer,
-        offsite: x.offsite + y.offsite,
-    }
-}
-
-fn add_fates(x: Fate, y: Fate) -> Fate
-    requires { weigh x + weigh y < 2 ^ 64 }
-    ensures { result ≡ add_fates x y }
-{
-    let a = x.headings;
-    let b = y.headings;
-    Fate {
-        held: x.held + y.held,
-        shipped: x.shipped + y.shipped,
-        consumed: x.consumed + y.consumed,
-        destroyed: x.destroyed + y.destroyed,
-        headings: add_headings(a, b),
-    }
-}
-
-const NO_FATE: Fate = Fate {
-    held: 0,
-    shipped: 0,
-    consumed: 0,
-    destroyed: 0,
-    headings: Headings {
-        air: 0,
-        water: 0,
-        soil: 0,
-        land: 0,
-        sewer: 0,
-        offsite: 0,
-    },
-};
-
 // Over all stages, added up.
-pub(crate) fn fate_to(sums: &[u64; 576], setup: Setup, s: usize) -> Fate
-    requires sound_setup { SoundSetup setup }
-    requires s_bound { (s < 8) × (total sums.now s < 2 ^ 64) }
-    ensures { result ≡ fate_to sums.now setup s 8 }
+#[tactic(auto, using(crate::proofs::fate::Laws::fate_none, crate::proofs::fate::Laws::fate_more, crate::proofs::fate::Laws::fates_fit))]
+pub(crate) fn fate_to(sums: &[u64; 576], setup: &Setup, s: usize) -> Fate
+    requires sound_setup { SoundSetup setup.now }
+    requires fits { (s < 8) × (total sums.now s < 2 ^ 64) }
+    ensures { result ≡ fate_to sums.now setup.now s 8 }
 {
-    let mut acc = NO_FATE;
-    let mut k: usize = 0;
-    while k < 8 {
-        let fate = stage_fate(sums, setup, s, k);
-        acc = add_fates(acc, fate);
-        k += 1;
+    let mut fate = Fate::default();
+    for stage in 0..8usize {
+        fate = fate + stage_fate(sums, setup, s, stage);
     }
-    acc
+    fate
 }

@@ -1,30 +1,18 @@
 // The report of a substance.
-ghost use Rattle.std.specs.Prelude.{◌≡◌, false, ◌*◌, ◌^◌, ◌<◌};
-ghost use Rattle.amounts.specs.Decline.{value_or};
-ghost use Rattle.amounts.specs.Filed.{filed_of};
-ghost use Rattle.amounts.specs.Threshold.{due_of};
-ghost use Rattle.book.specs.Site.{stored_to, Sound, SoundYear};
+ghost use Rattle.std.specs.Prelude.{◌≡◌, ◌^◌, ◌<◌};
+ghost use Rattle.book.specs.Site.{stored_to, SoundYear};
 ghost use Rattle.plant.specs.Setup.{SoundSetup};
-ghost use Rattle.report.specs.Fate.{map_headings};
-ghost use Rattle.report.specs.Report.{filing_of, report_in, report_of, answer};
+ghost use Rattle.report.specs.Report.{filing_of, report_in, report_of};
 
-use crate::fate;
-use crate::fate::{Fate, Headings};
-use amounts::decline::Decline;
-use amounts::threshold::Due;
-use amounts::{decline, filed, threshold};
-use book::site;
+use crate::fate::{Fate, Headings, fate_to};
+use amounts::decline::{Decline, check};
+use amounts::filed::filed_figure;
+use amounts::threshold::is_due;
 use book::site::{Book, Year};
 use plant::setup::Setup;
 
-#[derive(Clone, Copy)]
-pub enum Filing {
-    Figures(Headings),
-    NotDue,
-}
-
-// Amounts are in micrograms.
-#[derive(Clone, Copy)]
+// Amounts are in micrograms. That a substance is due is said beside its filed figures, which only such a one has: theorems name both.
+#[derive(Clone, Copy, Debug, PartialEq, Eq)]
 pub struct Report {
     pub posts: u32,
     pub number: u16,
@@ -32,104 +20,59 @@ pub struct Report {
     pub due: bool,
     pub store: u64,
     pub fate: Fate,
-    pub filed: Filing,
-}
-
-#[derive(Clone, Copy)]
-pub enum Reported {
-    Known(Report),
-    Declined(Decline),
-}
-
-// What grams bring of a substance, by its counted content.
-fn bring(grams: u64, counted: u32) -> u64
-    requires { grams * counted < 2 ^ 64 }
-    ensures { result ≡ grams * counted }
-{
-    grams * (counted as u64)
+    pub filed: Option<Headings>,
 }
 
 // The store of a substance, by the counted contents.
-fn stored_of<'a>(store: &'a [u64; 12], counted: &'a [u32; 96], s: usize) -> u64
+#[tactic(auto, using(crate::proofs::report::Laws::stored_le, encoding::proofs::Each::sum_again), unfolding(encoding::specs::Each::sum_to))]
+fn stored_of(store: &[u64; 12], counted: &[u32; 96], s: usize) -> u64
     requires { (s < 8) × (stored_to store.now counted.now s 12 < 2 ^ 64) }
     ensures { result ≡ stored_to store.now counted.now s 12 }
 {
-    let mut sum: u64 = 0;
-    let mut m: usize = 0;
-    while m < 12 {
-        sum += bring(store[m], counted[m * 8 + s]);
-        m += 1;
+    let mut sum = 0;
+    for m in 0..12usize {
+        sum += store[m] * u64::from(counted[m * 8 + s]);
     }
     sum
 }
 
-fn due_or_not(class: u8, handled: u64) -> bool
-    ensures { result ≡ value_or false (due_of class handled) }
+fn filing_of(due: bool, headings: Headings) -> Option<Headings>
+    ensures { result ≡ filing_of due headings }
 {
-    match threshold::is_due(class, handled) {
-        Due::Yes => true,
-        Due::No => false,
-        Due::Declined(_) => false,
-    }
-}
-
-fn figures_of(h: Headings) -> Headings
-    ensures { result ≡ map_headings filed_of h }
-{
-    Headings {
-        air: filed::filed_figure(h.air),
-        water: filed::filed_figure(h.water),
-        soil: filed::filed_figure(h.soil),
-        land: filed::filed_figure(h.land),
-        sewer: filed::filed_figure(h.sewer),
-        offsite: filed::filed_figure(h.offsite),
-    }
-}
-
-fn filing_of(due: bool, h: Headings) -> Filing
-    ensures { result ≡ filing_of due h }
-{
-    if due {
-        return Filing::Figures(figures_of(h));
-    }
-    Filing::NotDue
+    due.then(|| headings.map(filed_figure))
 }
 
 // The report of a substance that the set-up has.
-fn report_in(setup: Setup, year: Year, place: usize) -> Report
-    requires sound_setup { SoundSetup setup }
-    requires sound_year { SoundYear setup year }
-    requires place_lt_substances { place < setup.outline.substances }
-    ensures { result ≡ report_in setup year place }
+#[tactic(auto, using(crate::proofs::report::Laws::total_fits, crate::proofs::report::Laws::stored_fits))]
+fn report_in(setup: &Setup, year: &Year, place: usize) -> Report
+    requires sound_setup { SoundSetup setup.now }
+    requires sound_year { SoundYear setup.now year.now }
+    requires place_lt_substances { place < setup.now.outline.substances }
+    ensures { result ≡ report_in setup.now year.now place }
 {
-    let counted = setup.counted;
-    let number = setup.numbers[place];
     let handled = year.handled[place];
-    let due = due_or_not(setup.classes[place], handled);
-    let store = stored_of(&year.store, &counted, place);
-    let fate = fate::fate_to(&year.sums, setup, place);
-    let headings = fate.headings;
-    let filed = filing_of(due, headings);
+    let due = is_due(setup.classes[place], handled).unwrap_or(false);
+    let fate = fate_to(&year.sums, setup, place);
     Report {
         posts: year.posts,
-        number,
+        number: setup.numbers[place],
         handled,
         due,
-        store,
+        store: stored_of(&year.store, &setup.counted, place),
         fate,
-        filed,
+        filed: filing_of(due, fate.headings),
     }
 }
 
 // The report of the substance at a place, from 0.
-pub fn report_of(b: Book, place: usize) -> Reported
-    requires { Sound b }
-    ensures { answer result ≡ report_of b place }
+#[tactic(auto, unfolding(crate::specs::Report::report_of, amounts::specs::Decline::checked))]
+pub fn report_of(b: &Book, place: usize) -> Result<Report, Decline>
+    ensures { result ≡ report_of b.now place }
 {
-    let setup = site::setup_of(b);
-    let o = setup.outline;
-    if place >= o.substances as usize {
-        return Reported::Declined(decline::NO_SUBSTANCE);
-    }
-    Reported::Known(report_in(setup, site::year_of(b), place))
+    let setup = b.setup();
+    check(
+        place < setup.outline.substances as usize,
+        Decline::NoSubstance,
+    )?;
+    Ok(report_in(setup, b.year(), place))
 }

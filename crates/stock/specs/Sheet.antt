@@ -1,10 +1,8 @@
 -- The stock takers' sheet (document 02, (d)): "They count a material and want the difference from the book's store in grams".
-use Rattle.std.specs.Prelude.{ℕ, ◌-◌, ◌*◌, ◌^◌, ◌≡◌, Bool, cond, ◌&&◌, [], ◌∷◌, leb, ltb, ℤ, pos, neg_ℤ, ◌+ℤ◌, get_or, ◌≤ℤ◌}
-use Rattle.amounts.specs.Decline.{Answer, taken, declined, check, checked, stock_count}
-use Rattle.book.specs.Site.{Sound}
-use Rattle.book.specs.declared.site.Book.{Book}
-use Rattle.stock.specs.declared.sheet.Difference as sheet
-use Rattle.stock.specs.declared.sheet.Difference.TheVariants.{Grams, Declined}
+use Rattle.std.specs.Prelude.{ℕ, ◌-◌, ◌*◌, ◌^◌, ◌≡◌, Bool, cond, ◌&&◌, [], ◌∷◌, leb, ltb, ℤ, pos, neg_ℤ, ◌+ℤ◌, get_or, ◌≤ℤ◌, Ok}
+use Rattle.amounts.specs.Decline.{Answer, check, checked}
+use Rattle.amounts.specs.declared.decline.Decline.TheVariants.{StockCount}
+use Rattle.book.specs.Site.{Book, Sound}
 
 -- ---- the difference
 
@@ -35,7 +33,7 @@ may_count materials material grams = leb grams most && ltb material materials
 unfoldable pub stock_from : ℕ → (ℕ → ℕ) → ℕ → ℕ → Answer ℤ
 unfolding checked difference
 stock_from materials store_of material grams =
-    checked (check (may_count materials material grams) stock_count ∷ []) (difference grams (store_of material))
+    checked (check (may_count materials material grams) StockCount ∷ []) (difference grams (store_of material))
 
 abbrev pub store_in : Book → ℕ → ℕ
 store_in b material = get_or b.year.store material 0
@@ -43,11 +41,6 @@ store_in b material = get_or b.year.store material 0
 unfoldable pub stock_of : Book → ℕ → ℕ → Answer ℤ
 unfolding stock_from
 stock_of b material grams = stock_from b.setup.outline.materials (store_in b) material grams
-
--- what each case of the code's answer stands for
-abbrev pub answer : sheet.Difference → Answer ℤ
-answer (Grams d) = taken d
-answer (Declined d) = declined d.number
 
 -- ---- laws
 
@@ -61,4 +54,4 @@ pub record EitherWay (d : ℤ) : Type 0 where
   pub upper : d ≤ℤ plus most
 
 abbrev pub AnswersWithin : Type 0
-AnswersWithin = (b : Book) (material grams : ℕ) (d : ℤ) → Sound b → stock_of b material grams ≡ taken d → EitherWay d
+AnswersWithin = (b : Book) (material grams : ℕ) (d : ℤ) → Sound b → stock_of b material grams ≡ Ok d → EitherWay d

@@ -1,4 +1,4 @@
 pub mod Input
 pub mod Output
 pub mod Record
-pub mod Steps
+pub mod Trouble

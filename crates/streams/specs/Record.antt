@@ -1,52 +1,31 @@
--- Records on standard input.
-use Rattle.std.specs.Prelude.{ℕ, ◌+◌, ◌*◌, ◌≤◌, ◌<◌, ◌≡◌, Bool, true, false, cond, List, leb, length, get_or}
-use Rattle.streams.specs.declared.input.Input.{Input}
-use Rattle.streams.specs.declared.input.Part.{Part}
-use Rattle.streams.specs.declared.input.Part.TheVariants as part
-use Rattle.streams.specs.declared.record.RecordRead.{RecordRead}
-use Rattle.streams.specs.declared.record.Head.{Head}
+-- The records of an input.
+use Rattle.std.specs.Prelude.{ℕ, ◌+◌, ◌*◌, ◌<◌, ◌≤◌, ◌≡◌, ◌⊎◌, Option, None, Some, Result, Ok, Err, List, [], ◌++◌, length, slice_index}
+use Rattle.std.specs.Io.KnownBytes.{Consumes, IsAtEnd}
 use Rattle.streams.specs.declared.record.Record.{Record}
-use Rattle.streams.specs.declared.record.Record.TheVariants.{Complete, Malformed, End, Failed}
-use Rattle.streams.specs.declared.record.Start.{Start}
-use Rattle.streams.specs.declared.record.Start.TheVariants.{Begun, Over}
+use Rattle.streams.specs.declared.record.RecordError.{RecordError}
+use Rattle.streams.specs.declared.record.RecordError.TheVariants.{Malformed, Unread}
 
--- a record's head: a tag byte and a length in 16 bits, the lowest byte first
-abbrev pub head_of : List ℕ → Head
-head_of s = record { tag = get_or s 0 0; size = get_or s 1 0 + get_or s 2 0 * 256 }
+-- the length of a record's body, by its head
+abbrev pub size_of : List ℕ → ℕ
+size_of head = slice_index head 1 + slice_index head 2 * 256
 
--- a record longer than the space is malformed
-abbrev pub begun_in : ℕ → Head → Start
-begun_in room head = cond (leb head.size room) (Begun head) (Over Malformed)
+-- a record's head: its tag, and the length of its body
+pub record IsHeadOf (head : List ℕ) (r : Record) : Type 0 where
+  pub three : length head ≡ 3
+  pub tag : slice_index head 0 ≡ r.tag
+  pub size : size_of head ≡ length r.body.now
 
--- by what became of the part that is a record's head
-abbrev pub start_of : ℕ → List ℕ → Part → Start
-start_of room s part.Full = begun_in room (head_of s)
-start_of room s (part.Short n) = Over Malformed
-start_of room s part.End = Over End
-start_of room s part.Failed = Over Failed
+-- the input ends within a record's head or body
+abbrev pub IsCut : List ℕ → Type 0
+IsCut bytes = (0 < length bytes) × (length bytes < 3 + size_of bytes)
 
--- by what became of the part that is its body
-abbrev pub record_of : Head → Part → Record
-record_of head part.Full = Complete head.tag head.size
-record_of head (part.Short n) = Malformed
-record_of head part.End = Malformed
-record_of head part.Failed = Failed
+-- a head whose record has no room
+abbrev pub IsTooLong : ℕ → List ℕ → Type 0
+IsTooLong room head = (length head ≡ 3) × (room < size_of head)
 
-abbrev pub is_complete : Record → Bool
-is_complete (Complete tag size) = true
-is_complete Malformed = false
-is_complete End = false
-is_complete Failed = false
-
--- a whole record stands in the space that was lent
-abbrev pub Within : ℕ → Record → Type 0
-Within room (Complete tag size) = size ≤ room
-Within room Malformed = Unit {0}
-Within room End = Unit {0}
-Within room Failed = Unit {0}
-
--- the record that is read next: a whole one leaves fewer parts to ask for
-pub record Follows (from : Input) (given after : List ℕ) (n : RecordRead) : Type 0 where
-  pub same_length : length after ≡ length given
-  pub within : Within (length given) n.«record»
-  pub falls : is_complete n.«record» ≡ true → n.input.left < from.left
+-- what a record takes of an input of known bytes: its head and body, which has room; nothing at the end; where it is malformed or a read failed, some
+abbrev pub RecordTook : Option (List ℕ) → Option (List ℕ) → ℕ → Result (Option Record) RecordError → Type 0
+RecordTook before after room (Ok (Some r)) = (length r.body.now ≤ room) × ((head : List ℕ) × IsHeadOf head r × Consumes before after (head ++ r.body.now))
+RecordTook before after room (Ok None) = Consumes before after [] × IsAtEnd after
+RecordTook before after room (Err Malformed) = (bytes : List ℕ) × Consumes before after bytes × ((IsCut bytes × IsAtEnd after) ⊎ IsTooLong room bytes)
+RecordTook before after room (Err (Unread e)) = (bytes : List ℕ) × Consumes before after bytes

@@ -1,8 +1,9 @@
-// What every program does with its input and output: parts and records of standard input, texts on standard output, and a line on standard error where one of the two fails.
+// What every program does with its input and output: parts and records are read, bytes are written, and a line tells which of the two failed.
 #![tactic(auto)]
 
 pub mod input;
 pub mod output;
 pub mod record;
+#[cfg(test)]
+mod tests;
 pub mod trouble;
-pub mod writing;

@@ -1,110 +1,60 @@
-// The records: a tag byte, a length in 16 bits, and that many bytes.
-ghost use Rattle.std.specs.Prelude.{◌≡◌, ◌≤◌, ◌<◌, length};
-ghost use Rattle.streams.specs.Record.{head_of, start_of, record_of, Follows};
+// The records of an input: a tag byte, a length in 16 bits with the low byte first, and that many bytes.
+ghost use Rattle.std.specs.Prelude.{◌≡◌, ◌+◌, IfOk, OnSome, IsErr, length};
+ghost use Rattle.streams.specs.Input.{parts_left, bytes_left};
+ghost use Rattle.streams.specs.Record.{RecordTook};
 
-use crate::input;
-use crate::input::{Input, Part};
+use crate::input::Input;
+use std::io;
+use std::io::Read;
 
-// A whole record has its tag, and how many bytes stand in the space that was lent. One that is cut short, or longer than the space, is malformed.
-#[derive(Clone, Copy)]
-pub enum Record {
-    Complete(u8, usize),
+#[derive(Clone, Copy, Debug, PartialEq, Eq)]
+pub struct Record<'a> {
+    pub tag: u8,
+    pub body: &'a [u8],
+}
+
+/// Why there is no record where the input isn't at its end.
+#[derive(Debug, Drop)]
+pub enum RecordError {
+    /// It is cut short, or its body is longer than the space that was lent.
     Malformed,
-    End,
-    Failed,
+    Unread(io::Error),
 }
 
-#[derive(Clone, Copy)]
-pub struct RecordRead {
-    pub record: Record,
-    pub input: Input,
-}
+impl From<io::Error> for RecordError {
+    ghost use Rattle.streams.specs.declared.record.RecordError.TheVariants.{Unread};
 
-#[derive(Clone, Copy)]
-struct Head {
-    tag: u8,
-    size: usize,
-}
+    ghost from_gives = { λ e r. r ≡ Unread e };
 
-// A record that begins, or what there is in its place.
-#[derive(Clone, Copy)]
-enum Start {
-    Begun(Head),
-    Over(Record),
-}
-
-fn wide(x: u8) -> usize
-    ensures value { result ≡ x }
-    ensures upper_bound { result < 256 }
-{
-    x as usize
-}
-
-// A tag byte, and a length in 16 bits with the low byte first.
-fn head_of(s: [u8; 3]) -> Head
-    ensures { result ≡ head_of s }
-{
-    Head {
-        tag: s[0],
-        size: wide(s[1]) + wide(s[2]) * 256,
+    fn from(e: io::Error) -> RecordError {
+        RecordError::Unread(e)
     }
 }
 
-// By what became of the part that is a record's head.
-fn start_of(part: Part, s: [u8; 3], room: usize) -> Start
-    ensures { result ≡ start_of room s part }
-{
-    match part {
-        Part::Full => {
-            let head = head_of(s);
-            if head.size > room {
-                return Start::Over(Record::Malformed);
-            }
-            Start::Begun(head)
+impl<R: Read> Input<R> {
+    /// Reads the next record into the space that is lent; none is left at the input's end.
+    pub fn read_record<'a>(
+        &mut self,
+        space: &'a mut [u8],
+    ) -> Result<Option<Record<'a>>, RecordError>
+        ensures took { RecordTook (bytes_left R.remaining self.old) (bytes_left R.remaining self.new) (length space.old) result }
+        ensures counted { IfOk result (λ r. OnSome r (parts_left self.new + 2 ≡ parts_left self.old)) }
+        ensures spent { parts_left self.old ≡ 0 → IsErr result }
+    {
+        let mut head = [0; 3];
+        let n = self.read_part(&mut head)?;
+        if n == 0 {
+            return Ok(None);
         }
-        Part::Short(_) => Start::Over(Record::Malformed),
-        Part::End => Start::Over(Record::End),
-        Part::Failed => Start::Over(Record::Failed),
-    }
-}
-
-// By what became of the part that is its body.
-fn record_of(head: Head, part: Part) -> Record
-    ensures { result ≡ record_of head part }
-{
-    match part {
-        Part::Full => Record::Complete(head.tag, head.size),
-        Part::Short(_) => Record::Malformed,
-        Part::End => Record::Malformed,
-        Part::Failed => Record::Failed,
-    }
-}
-
-// What follows a record's head.
-fn body(from: Input, head: Head, space: &mut [u8]) -> RecordRead
-    requires { head.size ≤ length space.old }
-    ensures { Follows from space.old space.new result }
-{
-    let size = head.size;
-    let taken = input::read_part(from, &mut space[..size]);
-    let input = taken.input;
-    let part = taken.part;
-    RecordRead {
-        record: record_of(head, part),
-        input,
-    }
-}
-
-pub fn next(from: Input, space: &mut [u8]) -> RecordRead
-    ensures { Follows from space.old space.new result }
-{
-    let mut head = [0u8; 3];
-    let taken = input::read_part(from, &mut head);
-    let input = taken.input;
-    let part = taken.part;
-    let start = start_of(part, head, space.len());
-    match start {
-        Start::Begun(h) => body(input, h, space),
-        Start::Over(record) => RecordRead { record, input },
+        let [tag, low, high] = head;
+        let size = usize::from(u16::from_le_bytes([low, high]));
+        if n < head.len() || size > space.len() {
+            return Err(RecordError::Malformed);
+        }
+        let body = &mut space[..size];
+        if self.read_part(body)? < size {
+            return Err(RecordError::Malformed);
+        }
+        Ok(Some(Record { tag, body }))
     }
 }

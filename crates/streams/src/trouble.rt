@@ -1,15 +1,26 @@
-// The line on standard error of a program whose input or output fails.
-use crate::writing;
-use std::io::Stderr;
+// Why a program stops.
+use std::error::Error;
+use std::fmt;
 
-pub fn unread(to: Stderr, program: &[u8]) {
-    let mut to = to;
-    writing::all(&mut to, program);
-    writing::all(&mut to, b": standard input can't be read\n");
+/// Which of a program's streams failed. Its text is what the line on standard error says.
+#[derive(Clone, Copy, Debug, PartialEq, Eq)]
+pub enum Trouble {
+    Unread,
+    Unwritten,
 }
 
-pub fn unwritten(to: Stderr, program: &[u8]) {
-    let mut to = to;
-    writing::all(&mut to, program);
-    writing::all(&mut to, b": standard output can't be written\n");
+impl fmt::Display for Trouble {
+    ghost use Rattle.streams.specs.Trouble.{text_of};
+    ghost use Rattle.std.specs.Prelude.{Some};
+
+    ghost output = { λ t. Some (text_of t) };
+
+    fn fmt<W: fmt::Write>(&self, f: &mut fmt::Formatter<W>) -> fmt::Result {
+        match self {
+            Trouble::Unread => write!(f, "standard input can't be read"),
+            Trouble::Unwritten => write!(f, "standard output can't be written"),
+        }
+    }
 }
+
+impl Error for Trouble {}

@@ -2,4 +2,3 @@ pub mod Writing
 pub mod Number
 pub mod Line
 pub mod Print
-pub mod Steps

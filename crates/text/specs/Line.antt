@@ -1,7 +1,6 @@
 -- The line of a substance, and of a block that was refused (document 01, "`filing`" and "Treatment and report"), as bytes of ASCII.
-use Rattle.std.specs.Prelude.{ℕ, Bool, true, false, List, [], ◌∷◌, ◌++◌}
-use Rattle.report.specs.declared.report.Filing.{Filing}
-use Rattle.report.specs.declared.report.Filing.TheVariants.{Figures, NotDue}
+use Rattle.std.specs.Prelude.{ℕ, Bool, true, false, List, [], ◌∷◌, ◌++◌, Option, Some, None}
+use Rattle.report.specs.declared.fate.Headings.{Headings}
 use Rattle.report.specs.declared.report.Report.{Report}
 use Rattle.text.specs.Number.{space, digits_to, decimal, figure_text}
 
@@ -14,10 +13,10 @@ six_texts a b c d e f =
     (space ∷ a) ++ ((space ∷ b) ++ ((space ∷ c) ++ ((space ∷ d) ++ ((space ∷ e) ++ (space ∷ f)))))
 
 -- "six figures or `-` each"
-abbrev pub filing_text : Filing → List ℕ
-filing_text (Figures h) =
+abbrev pub filing_text : Option Headings → List ℕ
+filing_text (Some h) =
     six_texts (figure_text h.air) (figure_text h.water) (figure_text h.soil) (figure_text h.land) (figure_text h.sewer) (figure_text h.offsite)
-filing_text NotDue = six_texts (45 ∷ []) (45 ∷ []) (45 ∷ []) (45 ∷ []) (45 ∷ []) (45 ∷ [])
+filing_text None = six_texts (45 ∷ []) (45 ∷ []) (45 ∷ []) (45 ∷ []) (45 ∷ []) (45 ∷ [])
 
 abbrev pub yes_no : Bool → ℕ
 yes_no true = 89

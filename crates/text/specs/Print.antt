@@ -1,6 +1,6 @@
 -- The return (document 01, "`filing`"), as bytes of ASCII.
 use Rattle.std.specs.Prelude.{ℕ, zero, suc, List, [], ◌∷◌, ◌++◌}
-use Rattle.book.specs.declared.site.Book.{Book}
+use Rattle.book.specs.Site.{Book}
 use Rattle.report.specs.Report.{report_at}
 use Rattle.text.specs.Line.{line_text}
 

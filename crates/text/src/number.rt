@@ -1,57 +1,42 @@
 // Numbers in decimal digits, and figures in kilograms.
-ghost use Rattle.std.specs.Prelude.{◌≡◌, ◌∷◌, ◌<◌};
-ghost use Rattle.text.specs.Number.{space, digit, decimal, figure_text};
-ghost use Rattle.text.specs.Steps.{Room, Puts};
+ghost use Rattle.std.specs.Prelude.{◌≡◌, ◌∷◌, ◌+◌, ◌++◌, ◌≤◌, length};
+ghost use Rattle.text.specs.Number.{space, decimal, figure_text};
 
-use crate::writing::put_byte;
+use crate::writing::{Text, push};
+use itoa::Buffer;
 
 // In micrograms.
-const KG: u64 = 1000000000;
+const KG: u64 = 1_000_000_000;
 
-fn digit_of(x: u64) -> u8
-    requires { x < 10 }
-    ensures { result ≡ digit x }
+#[tactic(auto, using(crate::proofs::number::Laws::decimal_is))]
+pub(crate) fn push_decimal(text: &mut Text, x: u64)
+    requires { length text.old.items + 20 ≤ 1336 }
+    ensures text { text.new.items ≡ text.old.items ++ decimal x }
+    ensures short { length text.new.items ≤ length text.old.items + 20 }
 {
-    48 + x as u8
+    push(text, Buffer::new().format(x).as_bytes());
 }
 
-pub(crate) fn put_decimal(out: &mut [u8], at: usize, x: u64) -> usize
-    requires { Room out.old at (decimal x) }
-    ensures { Puts out.old at (decimal x) out.new result }
+// Behind a space.
+pub(crate) fn push_field(text: &mut Text, x: u64)
+    requires { length text.old.items + 21 ≤ 1336 }
+    ensures text { text.new.items ≡ text.old.items ++ (space ∷ decimal x) }
+    ensures short { length text.new.items ≤ length text.old.items + 21 }
 {
-    if x < 10 {
-        return put_byte(out, at, digit_of(x));
+    push(text, b" ");
+    push_decimal(text, x);
+}
+
+// A figure in kilograms, behind a space: whole, but with one decimal under 10 kg.
+#[tactic(auto, using(crate::proofs::number::Laws::decimal_small, crate::proofs::number::Laws::decimal_short), unfolding(crate::specs::Number::figure_text))]
+pub(crate) fn push_figure(text: &mut Text, figure: u64)
+    requires { length text.old.items + 23 ≤ 1336 }
+    ensures text { text.new.items ≡ text.old.items ++ (space ∷ figure_text figure) }
+    ensures short { length text.new.items ≤ length text.old.items + 12 }
+{
+    push_field(text, figure / KG);
+    if figure < 10 * KG {
+        push(text, b".");
+        push_decimal(text, figure / (KG / 10) % 10);
     }
-    let next = put_decimal(out, at, x / 10);
-    put_byte(out, next, digit_of(x % 10))
-}
-
-pub(crate) fn put_field(out: &mut [u8], at: usize, x: u64) -> usize
-    requires { Room out.old at (space ∷ decimal x) }
-    ensures { Puts out.old at (space ∷ decimal x) out.new result }
-{
-    let next = put_byte(out, at, b' ');
-    put_decimal(out, next, x)
-}
-
-// A figure in kilograms: whole, but with one decimal under 10 kg.
-fn put_figure(out: &mut [u8], at: usize, f: u64) -> usize
-    requires { Room out.old at (figure_text f) }
-    ensures { Puts out.old at (figure_text f) out.new result }
-{
-    if f >= 10 * KG {
-        return put_decimal(out, at, f / KG);
-    }
-    let tenth = digit_of(f / (KG / 10) % 10);
-    let point = put_decimal(out, at, f / KG);
-    let next = put_byte(out, point, b'.');
-    put_byte(out, next, tenth)
-}
-
-pub(crate) fn put_heading(out: &mut [u8], at: usize, f: u64) -> usize
-    requires { Room out.old at (space ∷ figure_text f) }
-    ensures { Puts out.old at (space ∷ figure_text f) out.new result }
-{
-    let next = put_byte(out, at, b' ');
-    put_figure(out, next, f)
 }

@@ -1,15 +1,14 @@
 // Counted content: the class and the ppm, and what counts.
 use crate::line;
-use amounts::content::Counted;
 use std::io::Stdout;
 
 fn counted(out: Stdout, class: u8, ppm: u32) {
-    line::number(out, class as u64);
-    line::number(out, ppm as u64);
-    match amounts::content::counted_content(class, ppm) {
-        Counted::Content(ppm) => line::last(out, ppm as u64),
-        Counted::Declined(d) => line::declined(out, d),
-    }
+    line::number(out, class);
+    line::number(out, ppm);
+    line::answer(
+        out,
+        amounts::content::counted_content(class, ppm).map(u64::from),
+    );
 }
 
 pub(crate) fn show_all(out: Stdout) {

@@ -81,16 +81,14 @@ const AMOUNTS: [u64; 62] = [
 fn show(out: Stdout, amount: u64) {
     let case = amounts::filed::case_of(amount);
     line::number(out, amount);
-    line::number(out, case.number as u64);
+    line::number(out, case.number);
     line::number(out, amounts::filed::step_of(amount));
     line::last(out, amounts::filed::filed_figure(amount));
 }
 
 pub(crate) fn show_all(out: Stdout) {
     line::text(out, b"figures: amount, case, step, figure\n");
-    let mut i: usize = 0;
-    while i < 62 {
-        show(out, AMOUNTS[i]);
-        i += 1;
+    for amount in AMOUNTS {
+        show(out, amount);
     }
 }

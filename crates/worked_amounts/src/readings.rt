@@ -1,6 +1,7 @@
 // A float read from its bits, in a range from 0 that has no end, and its whole part.
 use crate::line;
-use forms::pattern::{FloatRead, Range};
+use forms::pattern::Range;
+use losses::whole;
 use std::io::Stdout;
 
 const PATTERNS: [u64; 21] = [
@@ -34,25 +35,23 @@ const PATTERNS: [u64; 21] = [
     0x8000000000000001,
 ];
 
+// A range from 0 that has no end.
+const FROM_ZERO: Range = Range {
+    low: 0.0,
+    high: f64::INFINITY,
+};
+
 fn show(out: Stdout, bits: u64) {
     line::pattern(out, bits);
-    match forms::pattern::read_float(
-        bits,
-        Range {
-            low: 0.0,
-            high: 1.0 / 0.0,
-        },
-    ) {
-        FloatRead::Value(x) => line::last(out, losses::whole::whole_part(x)),
-        FloatRead::Declined(d) => line::declined(out, d),
-    }
+    line::answer(
+        out,
+        forms::pattern::read_float(bits, FROM_ZERO).map(whole::whole_part),
+    );
 }
 
 pub(crate) fn show_all(out: Stdout) {
     line::text(out, b"readings: pattern, whole part in a range from 0\n");
-    let mut i: usize = 0;
-    while i < 21 {
-        show(out, PATTERNS[i]);
-        i += 1;
+    for bits in PATTERNS {
+        show(out, bits);
     }
 }

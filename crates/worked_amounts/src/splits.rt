@@ -1,19 +1,18 @@
 // The treatment split: a total in micrograms, the removal and the destruction in ppm, and the three parts.
 use crate::line;
-use amounts::treatment::Split;
 use std::io::Stdout;
 
 fn split(out: Stdout, total: u64, removal: u32, destruction: u32) {
     line::number(out, total);
-    line::number(out, removal as u64);
-    line::number(out, destruction as u64);
+    line::number(out, removal);
+    line::number(out, destruction);
     match amounts::treatment::split_total(total, removal, destruction) {
-        Split::Into(parts) => {
+        Ok(parts) => {
             line::number(out, parts.released);
             line::number(out, parts.destroyed);
             line::last(out, parts.residue);
         }
-        Split::Declined(d) => line::declined(out, d),
+        Err(d) => line::declined(out, d),
     }
 }
 

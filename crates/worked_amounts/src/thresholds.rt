@@ -1,15 +1,14 @@
 // The threshold: the class and the micrograms handled, and whether the substance is due.
 use crate::line;
-use amounts::threshold::Due;
 use std::io::Stdout;
 
 fn due(out: Stdout, class: u8, handled: u64) {
-    line::number(out, class as u64);
+    line::number(out, class);
     line::number(out, handled);
     match amounts::threshold::is_due(class, handled) {
-        Due::Yes => line::text(out, b"Y\n"),
-        Due::No => line::text(out, b"N\n"),
-        Due::Declined(d) => line::declined(out, d),
+        Ok(true) => line::text(out, b"Y\n"),
+        Ok(false) => line::text(out, b"N\n"),
+        Err(d) => line::declined(out, d),
     }
 }
 

@@ -1,6 +1,6 @@
 // Losses called alone: the form, the management number and four floats by their bits, and the micrograms.
 use crate::line;
-use losses::loss::Loss;
+use forms::form::Inputs;
 use std::io::Stdout;
 
 const ZERO: u64 = 0x0000000000000000;
@@ -81,17 +81,18 @@ const PARTIAL_3750: u64 = 0x40ad4c0000000000;
 
 const TANK_1100: u64 = 0x4091300000000000;
 
+// The four floats by themselves, so that a case is a line with w, u, p and q in the paper's order.
 fn loss(out: Stdout, form: u8, number: u16, w: u64, u: u64, p: u64, q: u64) {
-    line::number(out, form as u64);
-    line::number(out, number as u64);
+    line::number(out, form);
+    line::number(out, number);
     line::pattern(out, w);
     line::pattern(out, u);
     line::pattern(out, p);
     line::pattern(out, q);
-    match losses::loss::vapour_loss(form, number, w, u, p, q) {
-        Loss::Micrograms(n) => line::last(out, n),
-        Loss::Declined(d) => line::declined(out, d),
-    }
+    line::answer(
+        out,
+        losses::loss::vapour_loss(form, number, Inputs { w, u, p, q }),
+    );
 }
 
 pub(crate) fn worked(out: Stdout) {

@@ -1,23 +1,13 @@
 // The bodies of set-up blocks, and the blocks.
 ghost use Rattle.std.specs.Prelude.{◌+◌, ◌≤◌, ◌<◌};
 
+use encoding::bytes;
 use layout::frame;
-use layout::frame::CheckSums;
 
-fn put16(body: &mut [u8; 500], at: usize, x: u16)
-    requires { at + 2 ≤ 500 }
+fn put<const N: usize>(body: &mut [u8; 500], at: usize, given: [u8; N])
+    requires { at + N ≤ 500 }
 {
-    body[at] = (x % 256) as u8;
-    body[at + 1] = (x / 256) as u8;
-}
-
-pub(crate) fn put32(body: &mut [u8; 500], at: usize, x: u32)
-    requires { at + 4 ≤ 500 }
-{
-    body[at] = (x % 256) as u8;
-    body[at + 1] = (x / 256 % 256) as u8;
-    body[at + 2] = (x / 65536 % 256) as u8;
-    body[at + 3] = (x / 16777216) as u8;
+    body[at..at + N].copy_from_slice(&given);
 }
 
 // The first two bytes: of kind 1 the counts of materials and stages, of kind 2 where water and residues go.
@@ -33,7 +23,7 @@ pub(crate) fn substance(given: [u8; 500], place: usize, number: u16, class: u8) 
     requires { place < 8 }
 {
     let mut body = given;
-    put16(&mut body, 2 + place * 2, number);
+    put(&mut body, 2 + place * 2, number.to_le_bytes());
     body[18 + place] = class;
     body
 }
@@ -42,7 +32,7 @@ pub(crate) fn content(given: [u8; 500], material: usize, place: usize, ppm: u32)
     requires { (material < 12) × (place < 8) }
 {
     let mut body = given;
-    put32(&mut body, 26 + material * 32 + place * 4, ppm);
+    put(&mut body, 26 + material * 32 + place * 4, ppm.to_le_bytes());
     body
 }
 
@@ -61,39 +51,26 @@ pub(crate) fn treated(
     let mut body = given;
     let at = 2 + place * 17;
     body[at] = side;
-    put32(&mut body, at + 1, gas);
-    put32(&mut body, at + 5, gas_destroyed);
-    put32(&mut body, at + 9, water);
-    put32(&mut body, at + 13, water_destroyed);
+    put(&mut body, at + 1, gas.to_le_bytes());
+    put(&mut body, at + 5, gas_destroyed.to_le_bytes());
+    put(&mut body, at + 9, water.to_le_bytes());
+    put(&mut body, at + 13, water_destroyed.to_le_bytes());
     body
-}
-
-fn fill(block: &mut [u8; 512], body: &[u8; 500]) {
-    for i in 0..500 {
-        block[8 + i] = body[i];
-    }
-}
-
-fn sums_of(block: &[u8; 512]) -> CheckSums {
-    frame::check_sums(block)
 }
 
 // A block of a kind, with its number and check sums.
 pub(crate) fn framed(kind: u8, count: u8, number: u32, body: &[u8; 500]) -> [u8; 512] {
     let mut block = [0u8; 512];
-    block[0] = b'P';
-    block[1] = b'R';
-    block[2] = b'T';
-    block[3] = b'R';
-    block[4] = kind;
-    block[5] = count;
-    block[6] = (number % 256) as u8;
-    block[7] = (number / 256 % 256) as u8;
-    fill(&mut block, body);
-    let sums = sums_of(&block);
-    block[508] = (sums.plain % 256) as u8;
-    block[509] = (sums.plain / 256) as u8;
-    block[510] = (sums.weighted % 256) as u8;
-    block[511] = (sums.weighted / 256) as u8;
+    let low = (number % 256) as u8;
+    let high = (number / 256 % 256) as u8;
+    bytes::put(
+        &mut block,
+        0,
+        &[b'P', b'R', b'T', b'R', kind, count, low, high],
+    );
+    bytes::put(&mut block, 8, body);
+    let sums = frame::check_sums(&block);
+    bytes::put(&mut block, 508, &sums.plain.to_le_bytes());
+    bytes::put(&mut block, 510, &sums.weighted.to_le_bytes());
     block
 }

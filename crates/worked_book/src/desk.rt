@@ -1,10 +1,6 @@
-// The library's calls, each with its line.
-ghost use Rattle.book.specs.Site.{Sound};
-
+// A book on which the library's calls are made, each with its line.
 use crate::{bodies, line, posts};
-use book::posts::take_post;
 use book::site::Book;
-use book::{block, site};
 use kinds::fields::Post;
 use plant::setup::check_setup;
 use plant::stage::check_stage;
@@ -12,138 +8,99 @@ use report::report::report_of;
 use std::io::Stdout;
 use stock::sheet::difference_of;
 
-pub(crate) fn give(out: Stdout, b: Book, p: Post) -> Book
-    requires { Sound b }
-    ensures { Sound result }
-{
-    line::post(out, p);
-    let bytes = posts::encode(p);
-    let answered = take_post(b, &bytes);
-    let verdict = answered.verdict;
-    line::verdict(out, verdict);
-    answered.book
-}
-
-// Kind, material, stage, substance, content and quantity.
-pub(crate) fn post(
+#[derive(Drop)]
+pub(crate) struct Desk {
     out: Stdout,
-    b: Book,
-    k: u8,
-    m: u8,
-    t: u8,
-    s: u8,
-    content: u32,
-    quantity: u64,
-) -> Book
-    requires { Sound b }
-    ensures { Sound result }
-{
-    give(out, b, posts::of(k, m, t, s, content, quantity))
+    book: Book,
 }
 
-// Form, stage, substance and floats.
-pub(crate) fn vapour(
-    out: Stdout,
-    b: Book,
-    form: u8,
-    t: u8,
-    s: u8,
-    w: u64,
-    u: u64,
-    p: u64,
-    q: u64,
-) -> Book
-    requires { Sound b }
-    ensures { Sound result }
-{
-    give(
-        out,
-        b,
-        posts::with_floats(posts::of(12, form, t, s, 0, 0), w, u, p, q),
-    )
-}
+impl Desk {
+    pub(crate) fn on(out: Stdout, book: Book) -> Desk {
+        Desk { out, book }
+    }
 
-pub(crate) fn close(out: Stdout, b: Book) -> Book
-    requires { Sound b }
-    ensures { Sound result }
-{
-    post(out, b, 13, 0, 0, 0, 0, 0)
-}
+    pub(crate) fn give(&mut self, p: Post) {
+        line::post(self.out, p);
+        let answer = self.book.take_post(&posts::encode(p));
+        line::verdict(self.out, answer);
+    }
 
-// A post of any bytes, named by how many they are.
-pub(crate) fn bytes(out: Stdout, b: Book, s: &[u8]) -> Book
-    requires { Sound b }
-    ensures { Sound result }
-{
-    line::text(out, b"bytes");
-    line::number(out, s.len() as u64);
-    let answered = take_post(b, s);
-    let verdict = answered.verdict;
-    line::verdict(out, verdict);
-    answered.book
-}
+    // Kind, material, stage, substance, content and quantity.
+    pub(crate) fn post(&mut self, k: u8, m: u8, t: u8, s: u8, content: u32, quantity: u64) {
+        self.give(posts::of(k, m, t, s, content, quantity));
+    }
 
-// A block of a kind with its number and check sums, on the book.
-fn framed(out: Stdout, b: Book, kind: u8, count: u8, body: &[u8; 500]) -> Book
-    requires { Sound b }
-    ensures { Sound result }
-{
-    line::number(out, count as u64);
-    let block = bodies::framed(kind, count, site::block_number(b), body);
-    let answered = block::take_block(b, &block);
-    let verdict = answered.verdict;
-    line::verdict(out, verdict);
-    answered.book
-}
+    // Form, stage, substance and floats.
+    pub(crate) fn vapour(&mut self, form: u8, t: u8, s: u8, w: u64, u: u64, p: u64, q: u64) {
+        self.give(posts::with_floats(posts::of(12, form, t, s, 0, 0), w, u, p, q));
+    }
 
-pub(crate) fn set_up(out: Stdout, b: Book, count: u8, body: &[u8; 500]) -> Book
-    requires { Sound b }
-    ensures { Sound result }
-{
-    line::text(out, b"set-up");
-    framed(out, b, 1, count, body)
-}
+    pub(crate) fn close(&mut self) {
+        self.post(13, 0, 0, 0, 0, 0);
+    }
 
-pub(crate) fn describe(out: Stdout, b: Book, place: u8, body: &[u8; 500]) -> Book
-    requires { Sound b }
-    ensures { Sound result }
-{
-    line::text(out, b"stage");
-    framed(out, b, 2, place, body)
-}
+    // A post of any bytes, named by how many they are.
+    pub(crate) fn bytes(&mut self, s: &[u8]) {
+        line::text(self.out, b"bytes");
+        line::number(self.out, s.len() as u64);
+        let answer = self.book.take_post(s);
+        line::verdict(self.out, answer);
+    }
 
-// A body that is no block's, by its layout alone.
-pub(crate) fn set_up_of(out: Stdout, b: Book, count: u8, body: &[u8]) {
-    line::text(out, b"set-up");
-    line::number(out, count as u64);
-    let setup = site::setup_of(b);
-    line::verdict(out, check_setup(setup.outline, count, body));
-}
+    // A block of a kind with its number and check sums.
+    fn framed(&mut self, kind: u8, count: u8, body: &[u8; 500]) {
+        line::number(self.out, count as u64);
+        let block = bodies::framed(kind, count, self.book.block_number(), body);
+        let answer = self.book.take_block(&block);
+        line::verdict(self.out, answer);
+    }
 
-pub(crate) fn describe_of(out: Stdout, b: Book, place: u8, body: &[u8]) {
-    line::text(out, b"stage");
-    line::number(out, place as u64);
-    let setup = site::setup_of(b);
-    line::verdict(out, check_stage(setup.outline, place, body));
-}
+    pub(crate) fn set_up(&mut self, count: u8, body: &[u8; 500]) {
+        line::text(self.out, b"set-up");
+        self.framed(1, count, body);
+    }
 
-pub(crate) fn report(out: Stdout, b: Book, place: usize)
-    requires { Sound b }
-{
-    line::report(out, place, report_of(b, place));
-}
+    pub(crate) fn describe(&mut self, place: u8, body: &[u8; 500]) {
+        line::text(self.out, b"stage");
+        self.framed(2, place, body);
+    }
 
-// The grams counted of a material.
-pub(crate) fn stock(out: Stdout, b: Book, material: usize, grams: u64)
-    requires { Sound b }
-{
-    line::stock(out, material, grams, difference_of(b, material, grams));
-}
+    // A body that is no block's, by its layout alone.
+    pub(crate) fn set_up_of(&self, count: u8, body: &[u8]) {
+        line::text(self.out, b"set-up");
+        line::number(self.out, count as u64);
+        line::verdict(
+            self.out,
+            check_setup(self.book.setup().outline, count, body),
+        );
+    }
 
-// Two substances.
-pub(crate) fn reports(out: Stdout, b: Book)
-    requires { Sound b }
-{
-    report(out, b, 0);
-    report(out, b, 1);
+    pub(crate) fn describe_of(&self, place: u8, body: &[u8]) {
+        line::text(self.out, b"stage");
+        line::number(self.out, place as u64);
+        line::verdict(
+            self.out,
+            check_stage(self.book.setup().outline, place, body),
+        );
+    }
+
+    pub(crate) fn report(&self, place: usize) {
+        line::report(self.out, place, report_of(&self.book, place));
+    }
+
+    // Two substances.
+    pub(crate) fn reports(&self) {
+        self.report(0);
+        self.report(1);
+    }
+
+    // The grams counted of a material.
+    pub(crate) fn stock(&self, material: usize, grams: u64) {
+        line::stock(
+            self.out,
+            material,
+            grams,
+            difference_of(&self.book, material, grams),
+        );
+    }
 }

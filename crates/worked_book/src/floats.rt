@@ -1,6 +1,7 @@
 // Decline 7: floats that are not finite, or outside the ranges of their kind and form.
+use crate::desk::Desk;
 use crate::posts::Field;
-use crate::{desk, line, sites, trials};
+use crate::{line, sites};
 use std::io::Stdout;
 
 const MINUS_ZERO: u64 = 0x8000000000000000;
@@ -25,75 +26,55 @@ const NAN: u64 = 0x7ff8000000000000;
 // A float that the kind does not use is zero, of either sign.
 pub(crate) fn unused(out: Stdout) {
     line::text(out, b"unused floats\n");
-    let mut b = sites::standing();
-    desk::reports(out, b);
-    b = trials::others(out, b, Field::W, LEAST);
-    b = trials::others(out, b, Field::U, BELOW_ZERO);
-    b = trials::others(out, b, Field::P, NAN);
-    b = trials::others(out, b, Field::Q, INFINITY);
-    desk::reports(out, b);
+    let mut d = Desk::on(out, sites::standing());
+    d.reports();
+    d.try_others(Field::W, LEAST);
+    d.try_others(Field::U, BELOW_ZERO);
+    d.try_others(Field::P, NAN);
+    d.try_others(Field::Q, INFINITY);
+    d.reports();
     line::text(out, b"minus zeros\n");
-    b = trials::kinds(out, b, 1, 12, Field::W, MINUS_ZERO);
-    b = trials::kinds(out, b, 1, 13, Field::Q, MINUS_ZERO);
-    b = trials::one(out, b, 14, Field::U, MINUS_ZERO);
-    b = trials::one(out, b, 13, Field::P, MINUS_ZERO);
-    desk::reports(out, b);
+    d.try_kinds(1, 12, Field::W, MINUS_ZERO);
+    d.try_kinds(1, 13, Field::Q, MINUS_ZERO);
+    d.try_one(14, Field::U, MINUS_ZERO);
+    d.try_one(13, Field::P, MINUS_ZERO);
+    d.reports();
 }
 
 pub(crate) fn first_form(out: Stdout) {
     line::text(out, b"form 1\n");
-    let mut b = sites::standing();
-    desk::reports(out, b);
-    b = desk::vapour(out, b, 1, 0, 0, BELOW_ONE, ONE, ONE, 0);
-    b = desk::vapour(out, b, 1, 0, 0, 0x408f400000000001, ONE, ONE, 0);
-    b = desk::vapour(out, b, 1, 0, 0, ONE, BELOW_ZERO, ONE, 0);
-    b = desk::vapour(out, b, 1, 0, 0, ONE, 0x4059000000000001, ONE, 0);
-    b = desk::vapour(out, b, 1, 0, 0, ONE, ONE, ABOVE_BILLION, 0);
-    b = desk::vapour(out, b, 1, 0, 0, ONE, ONE, ONE, LEAST);
-    b = desk::vapour(out, b, 1, 0, 0, NAN, ONE, ONE, 0);
-    b = desk::vapour(out, b, 1, 0, 0, ONE, ONE, ONE, NAN);
-    desk::reports(out, b);
-    b = desk::vapour(out, b, 1, 0, 0, ONE, ONE, ONE, MINUS_ZERO);
-    desk::reports(out, b);
+    let mut d = Desk::on(out, sites::standing());
+    d.reports();
+    d.vapour(1, 0, 0, BELOW_ONE, ONE, ONE, 0);
+    d.vapour(1, 0, 0, 0x408f400000000001, ONE, ONE, 0);
+    d.vapour(1, 0, 0, ONE, BELOW_ZERO, ONE, 0);
+    d.vapour(1, 0, 0, ONE, 0x4059000000000001, ONE, 0);
+    d.vapour(1, 0, 0, ONE, ONE, ABOVE_BILLION, 0);
+    d.vapour(1, 0, 0, ONE, ONE, ONE, LEAST);
+    d.vapour(1, 0, 0, NAN, ONE, ONE, 0);
+    d.vapour(1, 0, 0, ONE, ONE, ONE, NAN);
+    d.reports();
+    d.vapour(1, 0, 0, ONE, ONE, ONE, MINUS_ZERO);
+    d.reports();
 }
 
 pub(crate) fn other_forms(out: Stdout) {
     line::text(out, b"forms 2 and 3\n");
-    let mut b = sites::standing();
-    desk::reports(out, b);
-    b = desk::vapour(out, b, 2, 0, 0, ABOVE_BILLION, ONE, ONE, ONE);
-    b = desk::vapour(out, b, 2, 0, 0, ONE, BELOW_ZERO, ONE, ONE);
-    b = desk::vapour(out, b, 2, 0, 0, ONE, ONE, BELOW_ONE, ONE);
-    b = desk::vapour(out, b, 2, 0, 0, ONE, ONE, MINUS_ZERO, ONE);
-    b = desk::vapour(out, b, 2, 0, 0, ONE, ONE, ONE, ABOVE_ONE);
-    b = desk::vapour(out, b, 2, 0, 0, ONE, INFINITY, ONE, ONE);
-    b = desk::vapour(out, b, 3, 0, 0, ABOVE_BILLION, 0, 0, 0);
-    b = desk::vapour(out, b, 3, 0, 0, 0, BELOW_ZERO, 0, 0);
-    b = desk::vapour(out, b, 3, 0, 0, 0, 0, NAN, 0);
-    b = desk::vapour(out, b, 3, 0, 0, 0, 0, 0, INFINITY);
-    desk::reports(out, b);
+    let mut d = Desk::on(out, sites::standing());
+    d.reports();
+    d.vapour(2, 0, 0, ABOVE_BILLION, ONE, ONE, ONE);
+    d.vapour(2, 0, 0, ONE, BELOW_ZERO, ONE, ONE);
+    d.vapour(2, 0, 0, ONE, ONE, BELOW_ONE, ONE);
+    d.vapour(2, 0, 0, ONE, ONE, MINUS_ZERO, ONE);
+    d.vapour(2, 0, 0, ONE, ONE, ONE, ABOVE_ONE);
+    d.vapour(2, 0, 0, ONE, INFINITY, ONE, ONE);
+    d.vapour(3, 0, 0, ABOVE_BILLION, 0, 0, 0);
+    d.vapour(3, 0, 0, 0, BELOW_ZERO, 0, 0);
+    d.vapour(3, 0, 0, 0, 0, NAN, 0);
+    d.vapour(3, 0, 0, 0, 0, 0, INFINITY);
+    d.reports();
     // A quarter escapes of what 0.015625 m³ hold; 0.1 kg and 10^-9 kg.
-    b = desk::vapour(
-        out,
-        b,
-        2,
-        0,
-        0,
-        0x3f90000000000000,
-        ONE,
-        ONE,
-        0x3fd0000000000000,
-    );
-    b = desk::vapour(
-        out,
-        b,
-        3,
-        0,
-        0,
-        ONE,
-        0x3fb999999999999a,
-        0x3e112e0be826d695,
-        ONE,
-    );
-    desk::reports(out, b);
+    d.vapour(2, 0, 0, 0x3f90000000000000, ONE, ONE, 0x3fd0000000000000);
+    d.vapour(3, 0, 0, ONE, 0x3fb999999999999a, 0x3e112e0be826d695, ONE);
+    d.reports();
 }

@@ -1,11 +1,9 @@
 // The parts of a line: what was called, numbers with a space before each, and the answer, which ends the line.
 use amounts::decline::Decline;
 use kinds::fields::Post;
-use layout::verdict::Verdict;
 use report::fate::Headings;
-use report::report::{Filing, Report, Reported};
+use report::report::Report;
 use std::io::{Print, Stdout};
-use stock::sheet::{Difference, magnitude};
 
 pub(crate) fn text(out: Stdout, bytes: &[u8]) {
     let _ = Print::write_all(&out, bytes);
@@ -22,40 +20,36 @@ fn pattern(out: Stdout, bits: u64) {
 
 fn declined(out: Stdout, d: Decline) {
     text(out, b": declined");
-    number(out, d.number as u64);
+    number(out, u64::from(d.number()));
     text(out, b"\n");
 }
 
-pub(crate) fn verdict(out: Stdout, v: Verdict) {
-    match v {
-        Verdict::Accepted => text(out, b": accepted\n"),
-        Verdict::Declined(d) => declined(out, d),
+pub(crate) fn verdict(out: Stdout, answer: Result<(), Decline>) {
+    match answer {
+        Ok(()) => text(out, b": accepted\n"),
+        Err(d) => declined(out, d),
     }
 }
 
-fn sign(out: Stdout, n: i64) {
-    if n > 0 {
-        text(out, b"+");
-    } else if n < 0 {
-        text(out, b"-");
-    }
-}
-
+// A difference in grams: 0, or with its sign.
 fn difference(out: Stdout, n: i64) {
-    text(out, b": ");
-    sign(out, n);
-    let grams = magnitude(n);
-    let _ = println!(out; "{grams}");
+    let sign = match n {
+        ..0 => "-",
+        0 => "",
+        1.. => "+",
+    };
+    let grams = n.unsigned_abs();
+    let _ = println!(out; ": {sign}{grams}");
 }
 
 // The material, the grams counted and the difference.
-pub(crate) fn stock(out: Stdout, material: usize, grams: u64, answer: Difference) {
+pub(crate) fn stock(out: Stdout, material: usize, grams: u64, answer: Result<i64, Decline>) {
     text(out, b"stock");
     number(out, material as u64);
     number(out, grams);
     match answer {
-        Difference::Grams(n) => difference(out, n),
-        Difference::Declined(d) => declined(out, d),
+        Ok(n) => difference(out, n),
+        Err(d) => declined(out, d),
     }
 }
 
@@ -75,9 +69,7 @@ pub(crate) fn post(out: Stdout, p: Post) {
     number(out, p.substance as u64);
     number(out, p.content as u64);
     number(out, p.quantity);
-    if p.kind == 12 {
-        floats(out, p);
-    } else if (p.w | p.u | p.p | p.q) != 0 {
+    if p.kind == 12 || (p.w | p.u | p.p | p.q) != 0 {
         floats(out, p);
     }
 }
@@ -91,10 +83,10 @@ fn headings(out: Stdout, h: Headings) {
     number(out, h.offsite);
 }
 
-fn filed(out: Stdout, f: Filing) {
-    match f {
-        Filing::Figures(h) => headings(out, h),
-        Filing::NotDue => text(out, b" - - - - - -"),
+fn filed(out: Stdout, figures: Option<Headings>) {
+    match figures {
+        Some(h) => headings(out, h),
+        None => text(out, b" - - - - - -"),
     }
 }
 
@@ -103,30 +95,24 @@ fn known(out: Stdout, r: Report) {
     number(out, r.posts as u64);
     number(out, r.number as u64);
     number(out, r.handled);
-    if r.due {
-        text(out, b" Y");
-    } else {
-        text(out, b" N");
-    }
+    text(out, if r.due { b" Y" } else { b" N" });
     number(out, r.store);
     let x = r.fate;
     number(out, x.held);
     number(out, x.shipped);
     number(out, x.consumed);
     number(out, x.destroyed);
-    let h = x.headings;
-    headings(out, h);
-    let f = r.filed;
-    filed(out, f);
+    headings(out, x.headings);
+    filed(out, r.filed);
     text(out, b"\n");
 }
 
 // Posts, number, handled, due, store, held, shipped, consumed, destroyed, the six headings and the six figures.
-pub(crate) fn report(out: Stdout, place: usize, r: Reported) {
+pub(crate) fn report(out: Stdout, place: usize, answer: Result<Report, Decline>) {
     text(out, b"report");
     number(out, place as u64);
-    match r {
-        Reported::Known(x) => known(out, x),
-        Reported::Declined(d) => declined(out, d),
+    match answer {
+        Ok(r) => known(out, r),
+        Err(d) => declined(out, d),
     }
 }

@@ -1,36 +1,15 @@
 // Posts by what their kinds use, and their bytes.
-ghost use Rattle.std.specs.Prelude.{◌+◌, ◌≤◌};
-
 use kinds::fields::Post;
-
-fn put32(out: &mut [u8; 48], at: usize, x: u32)
-    requires { at + 4 ≤ 48 }
-{
-    out[at] = (x % 256) as u8;
-    out[at + 1] = (x / 256 % 256) as u8;
-    out[at + 2] = (x / 65536 % 256) as u8;
-    out[at + 3] = (x / 16777216 % 256) as u8;
-}
-
-fn put64(out: &mut [u8; 48], at: usize, x: u64)
-    requires { at + 8 ≤ 48 }
-{
-    put32(out, at, (x % 4294967296) as u32);
-    put32(out, at + 4, (x / 4294967296) as u32);
-}
 
 pub(crate) fn encode(p: Post) -> [u8; 48] {
     let mut out = [0u8; 48];
-    out[0] = p.kind;
-    out[1] = p.material;
-    out[2] = p.stage;
-    out[3] = p.substance;
-    put32(&mut out, 4, p.content);
-    put64(&mut out, 8, p.quantity);
-    put64(&mut out, 16, p.w);
-    put64(&mut out, 24, p.u);
-    put64(&mut out, 32, p.p);
-    put64(&mut out, 40, p.q);
+    out[..4].copy_from_slice(&[p.kind, p.material, p.stage, p.substance]);
+    out[4..8].copy_from_slice(&p.content.to_le_bytes());
+    out[8..16].copy_from_slice(&p.quantity.to_le_bytes());
+    out[16..24].copy_from_slice(&p.w.to_le_bytes());
+    out[24..32].copy_from_slice(&p.u.to_le_bytes());
+    out[32..40].copy_from_slice(&p.p.to_le_bytes());
+    out[40..].copy_from_slice(&p.q.to_le_bytes());
     out
 }
 
@@ -58,29 +37,23 @@ pub(crate) fn of(
 }
 
 pub(crate) fn with_floats(given: Post, w: u64, u: u64, p: u64, q: u64) -> Post {
-    let mut out = given;
-    out.w = w;
-    out.u = u;
-    out.p = p;
-    out.q = q;
-    out
+    Post {
+        w,
+        u,
+        p,
+        q,
+        ..given
+    }
 }
 
 // A post of each kind that the book of `sites` takes.
 pub(crate) fn good(kind: u8) -> Post {
-    if kind <= 4 {
-        return of(kind, 0, 0, 0, 0, 1);
+    match kind {
+        0..=4 => of(kind, 0, 0, 0, 0, 1),
+        5..=11 | 14 => of(kind, 0, 0, 0, 1, 1),
+        12 => of(kind, 3, 0, 0, 0, 0),
+        _ => of(kind, 0, 0, 0, 0, 0),
     }
-    if kind <= 11 {
-        return of(kind, 0, 0, 0, 1, 1);
-    }
-    if kind == 14 {
-        return of(kind, 0, 0, 0, 1, 1);
-    }
-    if kind == 12 {
-        return of(kind, 3, 0, 0, 0, 0);
-    }
-    of(kind, 0, 0, 0, 0, 0)
 }
 
 // A field, or none.

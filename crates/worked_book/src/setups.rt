@@ -1,6 +1,7 @@
 // Kind 1: a body that is taken, and each rule of its layout broken alone.
-use crate::{bodies, desk, line, sites};
-use book::site;
+use crate::desk::Desk;
+use crate::{bodies, line, sites};
+use book::site::Book;
 use std::io::Stdout;
 
 // A count of substances, and a byte of the good body with what it is changed to.
@@ -60,15 +61,13 @@ fn try_case(out: Stdout, case: Case) {
     line::number(out, at as u64);
     line::number(out, case.2 as u64);
     line::text(out, b" ");
-    desk::set_up(out, site::fresh(), case.0, &body);
+    Desk::on(out, Book::new()).set_up(case.0, &body);
 }
 
 pub(crate) fn cases(out: Stdout) {
     line::text(out, b"set-ups\n");
-    let mut i: usize = 0;
-    while i < 32 {
-        try_case(out, CASES[i]);
-        i += 1;
+    for case in CASES {
+        try_case(out, case);
     }
 }
 
@@ -79,7 +78,7 @@ fn numbered(out: Stdout, first: u16, second: u16) {
     line::number(out, first as u64);
     line::number(out, second as u64);
     line::text(out, b" ");
-    desk::set_up(out, site::fresh(), 2, &body);
+    Desk::on(out, Book::new()).set_up(2, &body);
 }
 
 // The contents of the second material.
@@ -90,7 +89,7 @@ fn containing(out: Stdout, first: u32, second: u32) {
     line::number(out, first as u64);
     line::number(out, second as u64);
     line::text(out, b" ");
-    desk::set_up(out, site::fresh(), 2, &body);
+    Desk::on(out, Book::new()).set_up(2, &body);
 }
 
 pub(crate) fn pairs(out: Stdout) {
@@ -114,16 +113,17 @@ pub(crate) fn pairs(out: Stdout) {
 // 6 for a length; 4 once set up, whatever the body, and on a closed book.
 pub(crate) fn turns(out: Stdout) {
     let body = sites::materials();
-    let mut b = site::fresh();
-    desk::set_up_of(out, b, 2, &body[0..499]);
-    desk::set_up_of(out, b, 2, &[0; 501]);
-    desk::reports(out, b);
-    b = desk::set_up(out, b, 2, &body);
-    desk::reports(out, b);
-    b = desk::set_up(out, b, 2, &body);
-    desk::set_up_of(out, b, 9, &[0; 0]);
-    desk::reports(out, b);
+    let mut d = Desk::on(out, Book::new());
+    d.set_up_of(2, &body[0..499]);
+    d.set_up_of(2, &[0; 501]);
+    d.reports();
+    d.set_up(2, &body);
+    d.reports();
+    d.set_up(2, &body);
+    d.set_up_of(9, &[0; 0]);
+    d.reports();
     line::text(out, b"closed ");
-    b = desk::set_up(out, sites::closed(), 2, &body);
-    desk::reports(out, b);
+    d = Desk::on(out, sites::closed());
+    d.set_up(2, &body);
+    d.reports();
 }

@@ -6,27 +6,29 @@
 //     1,000 kg off site, the step being 100.
 //   400: found 500,000 × 999,999 = 499,999,500,000 and 499,999 × 1, which makes 499,999,999,999, a microgram below 500 kg: not due.
 //   Nothing is held before or after, so that the close moves nothing.
-use crate::{bodies, desk, line};
-use book::site;
+use crate::desk::Desk;
+use crate::{bodies, line};
+use book::site::Book;
 use std::io::Stdout;
 
 pub(crate) fn year(out: Stdout) {
     line::text(out, b"a sorting site\n");
     let body = bodies::substance(bodies::begun(1, 2), 0, 80, 1);
     let body = bodies::substance(body, 1, 400, 2);
-    let mut b = desk::set_up(out, site::fresh(), 2, &body);
+    let mut d = Desk::on(out, Book::new());
+    d.set_up(2, &body);
     let body = bodies::treated(bodies::begun(1, 2), 0, 1, 0, 0, 0, 0);
-    b = desk::describe(out, b, 0, &bodies::treated(body, 1, 1, 0, 0, 0, 0));
+    d.describe(0, &bodies::treated(body, 1, 1, 0, 0, 0, 0));
     let body = bodies::treated(bodies::begun(2, 1), 0, 2, 0, 0, 0, 0);
-    b = desk::describe(out, b, 1, &bodies::treated(body, 1, 2, 0, 0, 0, 0));
-    b = desk::post(out, b, 14, 0, 0, 0, 450_000, 2_000_000);
-    b = desk::post(out, b, 14, 0, 1, 0, 21_649, 4_619_151);
-    b = desk::post(out, b, 14, 0, 0, 1, 999_999, 500_000);
-    b = desk::post(out, b, 14, 0, 1, 1, 1, 499_999);
-    desk::reports(out, b);
-    b = desk::post(out, b, 14, 0, 1, 0, 1, 1);
-    desk::reports(out, b);
-    b = desk::close(out, b);
-    b = desk::post(out, b, 14, 0, 1, 1, 1, 1);
-    desk::reports(out, b);
+    d.describe(1, &bodies::treated(body, 1, 2, 0, 0, 0, 0));
+    d.post(14, 0, 0, 0, 450_000, 2_000_000);
+    d.post(14, 0, 1, 0, 21_649, 4_619_151);
+    d.post(14, 0, 0, 1, 999_999, 500_000);
+    d.post(14, 0, 1, 1, 1, 499_999);
+    d.reports();
+    d.post(14, 0, 1, 0, 1, 1);
+    d.reports();
+    d.close();
+    d.post(14, 0, 1, 1, 1, 1);
+    d.reports();
 }

@@ -1,6 +1,7 @@
 // Kind 2: a body that is taken, each rule of its layout broken alone, and stages out of their turn.
-use crate::{bodies, desk, line, sites};
-use book::site;
+use crate::desk::Desk;
+use crate::{bodies, line, sites};
+use book::site::Book;
 use std::io::Stdout;
 
 // A byte of the good body with what it is changed to.
@@ -41,15 +42,13 @@ fn try_case(out: Stdout, case: Case) {
     line::number(out, at as u64);
     line::number(out, case.1 as u64);
     line::text(out, b" ");
-    desk::describe(out, sites::set_up(), 0, &body);
+    Desk::on(out, sites::set_up()).describe(0, &body);
 }
 
 pub(crate) fn cases(out: Stdout) {
     line::text(out, b"stages\n");
-    let mut i: usize = 0;
-    while i < 18 {
-        try_case(out, CASES[i]);
-        i += 1;
+    for case in CASES {
+        try_case(out, case);
     }
 }
 
@@ -70,7 +69,7 @@ fn rated(out: Stdout, gas: u32, gas_destroyed: u32, water: u32, water_destroyed:
     line::number(out, water as u64);
     line::number(out, water_destroyed as u64);
     line::text(out, b" ");
-    desk::describe(out, sites::set_up(), 0, &body);
+    Desk::on(out, sites::set_up()).describe(0, &body);
 }
 
 pub(crate) fn rates(out: Stdout) {
@@ -85,19 +84,19 @@ pub(crate) fn rates(out: Stdout) {
 // 6 for a length; 4 before the set-up, or for another stage than the next, whatever the body; and for a post before the last.
 pub(crate) fn turns(out: Stdout) {
     let body = sites::stage();
-    desk::describe(out, site::fresh(), 0, &body);
-    let mut b = sites::set_up();
-    desk::describe_of(out, b, 0, &body[0..499]);
-    b = desk::describe(out, b, 1, &body);
-    b = desk::describe(out, b, 0, &body);
-    b = desk::describe(out, b, 0, &body);
-    desk::describe_of(out, b, 2, &[0; 0]);
-    b = desk::post(out, b, 1, 0, 0, 0, 0, 1);
-    desk::reports(out, b);
-    b = desk::describe(out, b, 1, &body);
-    b = desk::describe(out, b, 2, &body);
-    b = desk::post(out, b, 1, 0, 0, 0, 0, 1);
-    desk::reports(out, b);
+    Desk::on(out, Book::new()).describe(0, &body);
+    let mut d = Desk::on(out, sites::set_up());
+    d.describe_of(0, &body[0..499]);
+    d.describe(1, &body);
+    d.describe(0, &body);
+    d.describe(0, &body);
+    d.describe_of(2, &[0; 0]);
+    d.post(1, 0, 0, 0, 0, 1);
+    d.reports();
+    d.describe(1, &body);
+    d.describe(2, &body);
+    d.post(1, 0, 0, 0, 0, 1);
+    d.reports();
     line::text(out, b"closed ");
-    desk::describe(out, sites::closed(), 2, &body);
+    Desk::on(out, sites::closed()).describe(2, &body);
 }

@@ -12,10 +12,8 @@
 //     Second stage: came 750; left 150 to gas, 400 shipped; 200 remain, and close to gas.
 //       Gas 150 + 200 = 350: removed nine tenths, 315, none destroyed; released 35, to air; residue 315, to landfill.
 //     They add up to 750 with the 400 shipped; filed 35 and 320.
-ghost use Rattle.book.specs.Site.{Sound};
-
-use crate::{bodies, desk, line};
-use book::site;
+use crate::desk::Desk;
+use crate::{bodies, line};
 use book::site::Book;
 use std::io::Stdout;
 
@@ -23,19 +21,18 @@ const A_HUNDRED: u64 = 0x4059000000000000;
 
 const A_HALF: u64 = 0x3fe0000000000000;
 
-fn opened(out: Stdout) -> Book
-    ensures { Sound result }
-{
+fn opened(out: Stdout) -> Desk {
     let body = bodies::substance(bodies::begun(2, 2), 0, 300, 1);
     let body = bodies::substance(body, 1, 400, 2);
     let body = bodies::content(body, 0, 0, 200_000);
     let body = bodies::content(body, 0, 1, 999);
     let body = bodies::content(body, 1, 0, 9_999);
     let body = bodies::content(body, 1, 1, 500_000);
-    let b = desk::set_up(out, site::fresh(), 2, &body);
+    let mut d = Desk::on(out, Book::new());
+    d.set_up(2, &body);
     let body = bodies::treated(bodies::begun(1, 1), 0, 1, 500_000, 250_000, 200_000, 0);
     let body = bodies::treated(body, 1, 2, 0, 0, 750_000, 500_000);
-    let b = desk::describe(out, b, 0, &body);
+    d.describe(0, &body);
     let body = bodies::treated(
         bodies::begun(2, 2),
         0,
@@ -46,49 +43,46 @@ fn opened(out: Stdout) -> Book
         500_000,
     );
     let body = bodies::treated(body, 1, 1, 900_000, 0, 0, 0);
-    desk::describe(out, b, 1, &body)
+    d.describe(1, &body);
+    d
 }
 
 // The second issue of the first material to the first stage is more than is there.
-fn received(out: Stdout, mut b: Book) -> Book
-    requires { Sound b }
-    ensures { Sound result }
-{
-    b = desk::post(out, b, 1, 0, 0, 0, 0, 1_000_000);
-    b = desk::post(out, b, 2, 0, 0, 0, 0, 4_000_000);
-    b = desk::post(out, b, 2, 1, 0, 0, 0, 2_000_000);
-    b = desk::post(out, b, 3, 0, 0, 0, 0, 3_000_000);
-    b = desk::post(out, b, 3, 0, 1, 0, 0, 1_000_000);
-    b = desk::post(out, b, 3, 0, 0, 0, 0, 2_000_000);
-    b = desk::post(out, b, 3, 1, 1, 0, 0, 1_500_000);
-    desk::post(out, b, 4, 0, 0, 0, 0, 300_000_000_000)
+fn received(d: &mut Desk) {
+    d.post(1, 0, 0, 0, 0, 1_000_000);
+    d.post(2, 0, 0, 0, 0, 4_000_000);
+    d.post(2, 1, 0, 0, 0, 2_000_000);
+    d.post(3, 0, 0, 0, 0, 3_000_000);
+    d.post(3, 0, 1, 0, 0, 1_000_000);
+    d.post(3, 0, 0, 0, 0, 2_000_000);
+    d.post(3, 1, 1, 0, 0, 1_500_000);
+    d.post(4, 0, 0, 0, 0, 300_000_000_000);
 }
 
 // The second post to gas states no content.
-fn moved(out: Stdout, mut b: Book) -> Book
-    requires { Sound b }
-    ensures { Sound result }
-{
-    b = desk::post(out, b, 5, 0, 0, 0, 200_000, 1_000_000);
-    b = desk::post(out, b, 6, 0, 0, 0, 50_000, 100_000);
-    b = desk::post(out, b, 7, 0, 1, 0, 100_000, 50_000);
-    b = desk::post(out, b, 8, 0, 1, 0, 10_000, 1_000);
-    b = desk::post(out, b, 9, 0, 0, 0, 95_000, 1_000_000);
-    b = desk::post(out, b, 10, 0, 0, 0, 100_000, 500_000);
-    b = desk::post(out, b, 10, 0, 0, 0, 0, 500_000);
-    b = desk::post(out, b, 11, 0, 1, 0, 50_000, 200_000);
-    b = desk::vapour(out, b, 3, 0, 0, A_HUNDRED, A_HALF, 0, 0);
-    b = desk::post(out, b, 10, 0, 1, 1, 500_000, 300_000);
-    desk::post(out, b, 5, 0, 1, 1, 400_000, 1_000_000)
+fn moved(d: &mut Desk) {
+    d.post(5, 0, 0, 0, 200_000, 1_000_000);
+    d.post(6, 0, 0, 0, 50_000, 100_000);
+    d.post(7, 0, 1, 0, 100_000, 50_000);
+    d.post(8, 0, 1, 0, 10_000, 1_000);
+    d.post(9, 0, 0, 0, 95_000, 1_000_000);
+    d.post(10, 0, 0, 0, 100_000, 500_000);
+    d.post(10, 0, 0, 0, 0, 500_000);
+    d.post(11, 0, 1, 0, 50_000, 200_000);
+    d.vapour(3, 0, 0, A_HUNDRED, A_HALF, 0, 0);
+    d.post(10, 0, 1, 1, 500_000, 300_000);
+    d.post(5, 0, 1, 1, 400_000, 1_000_000);
 }
 
 // What is bought after the close is refused.
 pub(crate) fn list(out: Stdout) {
     line::text(out, b"a list worked from its posts\n");
-    let mut b = moved(out, received(out, opened(out)));
-    desk::reports(out, b);
-    b = desk::close(out, b);
-    desk::reports(out, b);
-    b = desk::post(out, b, 2, 0, 0, 0, 0, 1);
-    desk::reports(out, b);
+    let mut d = opened(out);
+    received(&mut d);
+    moved(&mut d);
+    d.reports();
+    d.close();
+    d.reports();
+    d.post(2, 0, 0, 0, 0, 1);
+    d.reports();
 }

@@ -1,8 +1,6 @@
 // A year of three substances (80 and 300 in class 1, 400 in class 2), three materials and two stages.
-ghost use Rattle.book.specs.Site.{Sound};
-
-use crate::{bodies, desk, line};
-use book::site;
+use crate::desk::Desk;
+use crate::{bodies, line};
 use book::site::Book;
 use std::io::Stdout;
 
@@ -44,95 +42,84 @@ fn materials() -> [u8; 500] {
 
 // First stage: water to public water, residues off site; 80 and 400 close to gas, 300 to waste water. Second: water to the sewer,
 // residues to landfill; 80 and 400 close to waste water, 300 to gas.
-fn opened(out: Stdout) -> Book
-    ensures { Sound result }
-{
-    let mut b = desk::set_up(out, site::fresh(), 3, &materials());
+fn opened(out: Stdout) -> Desk {
+    let mut d = Desk::on(out, Book::new());
+    d.set_up(3, &materials());
     let body = bodies::begun(1, 1);
     let body = bodies::treated(body, 0, 1, 900_000, 400_000, 500_000, 250_000);
     let body = bodies::treated(body, 1, 2, 333_333, 666_667, 800_000, 0);
     let body = bodies::treated(body, 2, 1, 999_999, 999_999, 1_000_000, 500_000);
-    b = desk::describe(out, b, 0, &body);
+    d.describe(0, &body);
     let body = bodies::begun(2, 2);
     let body = bodies::treated(body, 0, 2, 123_456, 654_321, 700_000, 300_000);
     let body = bodies::treated(body, 1, 1, 1_000_000, 1_000_000, 1, 1);
     let body = bodies::treated(body, 2, 2, 0, 1_000_000, 500_000, 500_000);
-    desk::describe(out, b, 1, &body)
+    d.describe(1, &body);
+    d
 }
 
-fn reports(out: Stdout, b: Book)
-    requires { Sound b }
-{
-    desk::reports(out, b);
-    desk::report(out, b, 2);
+fn reports(d: &Desk) {
+    d.reports();
+    d.report(2);
 }
 
 // Kinds 1 to 4: into the stores, from them to the stages, and what is formed there.
-fn received(out: Stdout, mut b: Book) -> Book
-    requires { Sound b }
-    ensures { Sound result }
-{
-    b = desk::post(out, b, 1, 0, 0, 0, 0, 3_000_000);
-    b = desk::post(out, b, 2, 0, 0, 0, 0, 2_000_000);
-    b = desk::post(out, b, 2, 1, 0, 0, 0, 4_000_001);
-    b = desk::post(out, b, 2, 2, 0, 0, 0, 500);
-    b = desk::post(out, b, 3, 0, 0, 0, 0, 2_500_000);
-    b = desk::post(out, b, 3, 0, 1, 0, 0, 1_200_003);
-    b = desk::post(out, b, 3, 1, 0, 0, 0, 1_500_007);
-    b = desk::post(out, b, 3, 1, 1, 0, 0, 2_000_000);
-    b = desk::post(out, b, 3, 2, 0, 0, 0, 100);
+fn received(d: &mut Desk) {
+    d.post(1, 0, 0, 0, 0, 3_000_000);
+    d.post(2, 0, 0, 0, 0, 2_000_000);
+    d.post(2, 1, 0, 0, 0, 4_000_001);
+    d.post(2, 2, 0, 0, 0, 500);
+    d.post(3, 0, 0, 0, 0, 2_500_000);
+    d.post(3, 0, 1, 0, 0, 1_200_003);
+    d.post(3, 1, 0, 0, 0, 1_500_007);
+    d.post(3, 1, 1, 0, 0, 2_000_000);
+    d.post(3, 2, 0, 0, 0, 100);
     // An opening may come at any time.
-    b = desk::post(out, b, 1, 1, 0, 0, 0, 1_000_000);
-    reports(out, b);
-    b = desk::post(out, b, 4, 0, 0, 2, 0, 700_000_000_000);
-    b = desk::post(out, b, 4, 0, 1, 2, 0, 1);
-    desk::post(out, b, 4, 0, 1, 0, 0, 123_456_789_012)
+    d.post(1, 1, 0, 0, 0, 1_000_000);
+    reports(d);
+    d.post(4, 0, 0, 2, 0, 700_000_000_000);
+    d.post(4, 0, 1, 2, 0, 1);
+    d.post(4, 0, 1, 0, 0, 123_456_789_012);
 }
 
 // Kinds 5 to 9. The 5 ppm of 300 and the 999 ppm of 400 are taken as stated.
-fn moved(out: Stdout, mut b: Book) -> Book
-    requires { Sound b }
-    ensures { Sound result }
-{
-    b = desk::post(out, b, 5, 0, 0, 0, 450_000, 1_000_000);
-    b = desk::post(out, b, 6, 0, 0, 1, 5, 100_003);
-    b = desk::post(out, b, 6, 0, 1, 0, 123_457, 10_001);
-    b = desk::post(out, b, 7, 0, 1, 0, 1_000_000, 33_333);
-    b = desk::post(out, b, 7, 0, 0, 1, 20_000, 77_777);
-    b = desk::post(out, b, 8, 0, 1, 1, 9_999, 54_321);
-    b = desk::post(out, b, 8, 0, 0, 0, 1, 1);
-    desk::post(out, b, 9, 0, 0, 2, 999, 300_000_001)
+fn moved(d: &mut Desk) {
+    d.post(5, 0, 0, 0, 450_000, 1_000_000);
+    d.post(6, 0, 0, 1, 5, 100_003);
+    d.post(6, 0, 1, 0, 123_457, 10_001);
+    d.post(7, 0, 1, 0, 1_000_000, 33_333);
+    d.post(7, 0, 0, 1, 20_000, 77_777);
+    d.post(8, 0, 1, 1, 9_999, 54_321);
+    d.post(8, 0, 0, 0, 1, 1);
+    d.post(9, 0, 0, 2, 999, 300_000_001);
 }
 
 // Kinds 10 to 12. 80 leaves the first stage by vapour beside its gas: 2,000 m³ at 1,330 of 98,100 Pa. 300 goes through a floating
 // roof of 14 m, 9.9 % of 1,500 kL. 400 leaves a station that received 150 kL and dispensed 142.
-fn emitted(out: Stdout, mut b: Book) -> Book
-    requires { Sound b }
-    ensures { Sound result }
-{
-    b = desk::post(out, b, 10, 0, 0, 0, 450_001, 200_003);
-    b = desk::post(out, b, 10, 0, 1, 0, 333_333, 99_999);
-    b = desk::post(out, b, 10, 0, 0, 1, 71, 1_000_003);
-    b = desk::post(out, b, 10, 0, 1, 2, 7, 142);
-    b = desk::post(out, b, 11, 0, 0, 0, 12_345, 67_891);
-    b = desk::post(out, b, 11, 0, 1, 0, 98_765, 432_101);
-    b = desk::post(out, b, 11, 0, 1, 1, 250_000, 2_000_001);
-    b = desk::post(out, b, 11, 0, 0, 2, 30, 70_001);
-    b = desk::vapour(out, b, 2, 0, 0, VOLUME, PARTIAL, TANK, ONE);
-    b = desk::vapour(out, b, 1, 0, 1, DIAMETER, PERCENT, DRAWN, 0);
-    desk::vapour(out, b, 3, 1, 2, RECEIVED, FILLING, DISPENSED, FUELING)
+fn emitted(d: &mut Desk) {
+    d.post(10, 0, 0, 0, 450_001, 200_003);
+    d.post(10, 0, 1, 0, 333_333, 99_999);
+    d.post(10, 0, 0, 1, 71, 1_000_003);
+    d.post(10, 0, 1, 2, 7, 142);
+    d.post(11, 0, 0, 0, 12_345, 67_891);
+    d.post(11, 0, 1, 0, 98_765, 432_101);
+    d.post(11, 0, 1, 1, 250_000, 2_000_001);
+    d.post(11, 0, 0, 2, 30, 70_001);
+    d.vapour(2, 0, 0, VOLUME, PARTIAL, TANK, ONE);
+    d.vapour(1, 0, 1, DIAMETER, PERCENT, DRAWN, 0);
+    d.vapour(3, 1, 2, RECEIVED, FILLING, DISPENSED, FUELING);
 }
 
 pub(crate) fn all(out: Stdout) {
     line::text(out, b"a year\n");
-    let mut b = opened(out);
-    reports(out, b);
-    b = received(out, b);
-    b = moved(out, b);
-    reports(out, b);
-    b = emitted(out, b);
-    reports(out, b);
-    b = desk::close(out, b);
-    reports(out, b);
-    desk::report(out, b, 3);
+    let mut d = opened(out);
+    reports(&d);
+    received(&mut d);
+    moved(&mut d);
+    reports(&d);
+    emitted(&mut d);
+    reports(&d);
+    d.close();
+    reports(&d);
+    d.report(3);
 }

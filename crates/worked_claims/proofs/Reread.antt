@@ -2,8 +2,11 @@
 use mathlib.Core.Path.{◌≡◌, refl, ap, ◌∙◌}
 use mathlib.Core.List.{List, [], ◌∷◌, ◌++◌}
 use lib.Ieee as ieee
+use lib.ListN.{get_or}
+use Rattle.forms.specs.Pattern.{in_range}
 use Rattle.amounts.specs.Content.{counted_of}
-use Rattle.amounts.specs.Decline.{taken, declined, short}
+use Rattle.std.specs.Prelude.{Ok, Err}
+use Rattle.amounts.specs.declared.decline.Decline.TheVariants.{Short}
 use Rattle.encoding.specs.Bytes.{le, written, placed}
 use Rattle.encoding.specs.Each.{sum_to, all_to, list_to, put_to}
 use Rattle.plant.specs.Setup.{set_up_on}
@@ -25,32 +28,30 @@ use Rattle.worked_claims.specs.Reread.{met, unmet, lent, book_met, PremiseMet, P
 -- ---- the premise met
 
 writer_takes_met : accepted (fresh_page lent) met ≡ met
-unfolding met lent accepted page.set_up_on page.post_on placed written le sum_to all_to second_of rates_at post_at ieee.of_bits ieee.round ieee.le
+unfolding met lent accepted page.set_up_on page.post_on placed written le sum_to all_to second_of rates_at post_at in_range ieee.of_bits ieee.round ieee.le
 writer_takes_met = refl
 
-book_takes_met : all_taken fresh_book (singly 0 met) ≡ taken book_met
-unfolding book_met block_on single_on described_on set_up_on posts_on le sum_to all_to list_to put_to second_of rates_at counted_of post_at measured ieee.of_bits ieee.round ieee.le
-book_takes_met = refl
-
-both_posted : book_met.year.posts ≡ 2
-unfolding book_met block_on single_on described_on set_up_on posts_on le sum_to all_to list_to put_to second_of rates_at counted_of post_at measured ieee.of_bits ieee.round ieee.le
-both_posted = refl
+-- what the book is that took them: both posts, one material, and 900 g of it in store
+pub book_takes_met : (all_taken fresh_book (singly 0 met) ≡ Ok book_met)
+    × ((book_met.year.posts ≡ 2) × ((book_met.setup.outline.materials ≡ 1) × (get_or book_met.year.store 0 0 ≡ 900)))
+unfolding book_met block_on single_on described_on set_up_on posts_on le sum_to all_to list_to put_to second_of rates_at counted_of post_at measured in_range ieee.of_bits ieee.round ieee.le
+book_takes_met = (refl, (refl, (refl, refl)))
 
 pub premise_met : PremiseMet
-premise_met = (ap (λ (cs : List Call). all_taken fresh_book (singly 0 cs)) writer_takes_met ∙ book_takes_met, both_posted)
+premise_met = (ap (λ (cs : List Call). all_taken fresh_book (singly 0 cs)) writer_takes_met ∙ book_takes_met.0, book_takes_met.1.0)
 
 -- ---- the premise not met
 
 writer_takes_unmet : accepted (fresh_page lent) unmet ≡ unmet
-unfolding unmet lent accepted page.set_up_on page.post_on placed written le sum_to all_to second_of rates_at post_at ieee.of_bits ieee.round ieee.le
+unfolding unmet lent accepted page.set_up_on page.post_on placed written le sum_to all_to second_of rates_at post_at in_range ieee.of_bits ieee.round ieee.le
 writer_takes_unmet = refl
 
-book_declines_unmet : all_taken fresh_book (singly 0 unmet) ≡ declined short
-unfolding unmet all_taken singly block_on single_on described_on set_up_on posts_on le sum_to all_to list_to put_to second_of rates_at counted_of post_at measured ieee.of_bits ieee.round ieee.le
+book_declines_unmet : all_taken fresh_book (singly 0 unmet) ≡ Err Short
+unfolding unmet all_taken singly block_on single_on described_on set_up_on posts_on le sum_to all_to list_to put_to second_of rates_at counted_of post_at measured in_range ieee.of_bits ieee.round ieee.le
 book_declines_unmet = refl
 
-journal_refused : read_all fresh_book 0 (parts_in (joined (blocks_of (unmet ++ (end ∷ []))))) ≡ refused 2 short
-unfolding unmet joined blocks_of parts_to read_all block_on single_on described_on set_up_on posts_on le sum_to all_to list_to put_to second_of rates_at counted_of post_at measured ieee.of_bits ieee.round ieee.le
+journal_refused : read_all fresh_book 0 (parts_in (joined (blocks_of (unmet ++ (end ∷ []))))) ≡ refused 2 Short
+unfolding unmet joined blocks_of parts_to read_all block_on single_on described_on set_up_on posts_on le sum_to all_to list_to put_to second_of rates_at counted_of post_at measured in_range ieee.of_bits ieee.round ieee.le
 journal_refused = refl
 
 pub premise_needed : PremiseNeeded

@@ -1,10 +1,10 @@
 -- Lists of a writer's calls, one that a fresh book takes one by one and one that it doesn't (document 02, (a): "If a fresh book takes the set-up and posts that the
 -- writer took, one by one, it also takes the written journal").
-use Rattle.std.specs.Prelude.{ℕ, ◌≡◌, List, [], ◌∷◌, ◌++◌, replicate}
-use Rattle.amounts.specs.Decline.{declined, value_or, short}
+use Rattle.std.specs.Prelude.{ℕ, ◌≡◌, List, [], ◌∷◌, ◌++◌, replicate, Err}
+use Rattle.amounts.specs.Decline.{value_or}
+use Rattle.amounts.specs.declared.decline.Decline.TheVariants.{Short}
 use Rattle.encoding.specs.Bytes.{padded}
-use Rattle.book.specs.Site.{fresh_book}
-use Rattle.book.specs.declared.site.Book.{Book}
+use Rattle.book.specs.Site.{Book, fresh_book}
 use Rattle.book.specs.Blocks.{parts_in, refused, read_all}
 use Rattle.pages.specs.Calls.{Call, set_up, post, accepted}
 use Rattle.pages.specs.Page.{fresh_page}
@@ -55,5 +55,5 @@ PremiseMet = TakesSingly lent met book_met × (book_met.year.posts ≡ 2)
 -- where it isn't met, since a store can't give what it hasn't, the journal is refused too: at its third block, as the post was
 abbrev pub PremiseNeeded : Type 0
 PremiseNeeded =
-    (all_taken fresh_book (singly 0 (accepted (fresh_page lent) unmet)) ≡ declined short)
-    × (read_all fresh_book 0 (parts_in (journal_of lent unmet)) ≡ refused 2 short)
+    (all_taken fresh_book (singly 0 (accepted (fresh_page lent) unmet)) ≡ Err Short)
+    × (read_all fresh_book 0 (parts_in (journal_of lent unmet)) ≡ refused 2 Short)

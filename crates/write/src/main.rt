@@ -1,36 +1,73 @@
 // A journal from records: reads a list of records from standard input, and writes the journal of those that are taken on standard output.
 #![tactic(auto)]
 
-mod reading;
-mod reply;
+use records::call;
+use records::refusal::Refusal;
+use std::io;
+use std::io::{ErrorKind, Read, Write};
+use streams::input::Input;
+use streams::output::Output;
+use streams::record::RecordError;
+use streams::trouble::Trouble;
+use writer::writer::Writer;
 
-use pages::page;
-use std::io::{Stderr, Stdin, Stdout};
-use streams::{output, trouble};
+/// The line of a record that isn't taken.
+fn tell<E: Write>(errors: &mut E, place: u64, refusal: Refusal) {
+    let _ = match refusal {
+        Refusal::Declined(decline) => writeln!(errors, "record {place} {}", decline.number()),
+        Refusal::Malformed => writeln!(errors, "record {place} malformed"),
+    };
+}
 
-// The bytes at the start of a buffer on standard output.
-fn show(stdout: Stdout, stderr: Stderr, bytes: &[u8], n: usize) {
-    if n <= bytes.len() {
-        let written = output::text(output::start(stdout), &bytes[..n]);
-        if output::has_failed(written) {
-            trouble::unwritten(stderr, b"write");
+/// Takes the records up to the end of the input or to a malformed one, and tells of those that aren't taken.
+fn take_records<R: Read, E: Write>(
+    input: &mut Input<R>,
+    writer: &mut Writer<'_>,
+    errors: &mut E,
+) -> io::Result<()> {
+    let mut space = [0; 65536];
+    for place in 0..u64::MAX {
+        let taken = match input.read_record(&mut space) {
+            Ok(None) => return Ok(()),
+            Ok(Some(record)) => call::take(writer, record.tag, record.body),
+            Err(RecordError::Malformed) => Err(Refusal::Malformed),
+            Err(RecordError::Unread(e)) => return Err(e),
+        };
+        if let Err(refusal) = taken {
+            tell(errors, place, refusal);
+            if refusal == Refusal::Malformed {
+                return Ok(());
+            }
         }
     }
+    Err(ErrorKind::Other.into())
 }
 
-fn write_journal(stdin: Stdin, stdout: Stdout, stderr: Stderr, buffer: &mut [u8]) {
-    let all = reading::read_records(stdin, stderr, buffer);
-    if !all.is_read {
-        trouble::unread(stderr, b"write");
-        return;
+/// Writes the journal of the records that are taken, made in a lent buffer.
+fn run<R: Read, W: Write, E: Write>(
+    input: &mut Input<R>,
+    output: &mut Output<W>,
+    errors: &mut E,
+    buffer: &mut [u8],
+) -> Result<(), Trouble> {
+    let mut writer = Writer::new(buffer);
+    take_records(input, &mut writer, errors).map_err(|_| Trouble::Unread)?;
+    let filled = writer.end();
+
+    // What is filled is within the buffer.
+    if let Some(journal) = buffer.get(..filled) {
+        output.write_all(journal).map_err(|_| Trouble::Unwritten)?;
     }
-    let draft = all.draft;
-    let ended = page::end_posts(buffer, all.filled, draft);
-    show(stdout, stderr, buffer, ended.filled);
+    Ok(())
 }
 
-// The journal has room for 4,096 blocks.
 fn main(rt: HostRuntime) {
-    let mut buffer = [0u8; 2097152];
-    write_journal(rt.stdin(), rt.stdout(), rt.stderr(), &mut buffer);
+    let mut input = Input::new(rt.stdin());
+    let mut output = Output::new(rt.stdout());
+
+    // The journal has room for 4,096 blocks.
+    let mut buffer = [0; 2097152];
+    if let Err(trouble) = run(&mut input, &mut output, &mut rt.stderr(), &mut buffer) {
+        let _ = eprintln!(rt; "write: {trouble}");
+    }
 }

@@ -1,4 +1,4 @@
-// The writer of journals as a struct that holds its lent buffer, over the calls of `pages`.
+// The writer of journals, a set-up block or a post at a time into a lent buffer.
 #![tactic(auto)]
 
 pub mod writer;

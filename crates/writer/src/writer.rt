@@ -1,72 +1,103 @@
-// A writer that keeps a lent buffer, its filled length and the block being filled together. Each function takes it apart and calls one of `pages::page`.
-ghost use Rattle.std.specs.Prelude.{◌≡◌};
-ghost use Rattle.amounts.specs.Decline.{taken};
-ghost use Rattle.layout.specs.declared.verdict.Verdict.TheVariants.{Accepted};
-ghost use Rattle.pages.specs.Page.{set_up_on, post_on, ended, Sound, Answers};
-ghost use Rattle.writer.specs.Writer.{fresh_writer, page, Kept};
+// A writer over a lent buffer: a counter, whose blocks stand at the start of the buffer, and the block that is being filled.
+ghost use Rattle.std.specs.Prelude.{◌≡◌, ◌+◌, ◌*◌, ◌≤◌, ◌<◌, length, replicate};
+ghost use Rattle.layout.specs.Frame.{body_of, block_of};
+ghost use Rattle.encoding.specs.Bytes.{placed};
 
-use layout::verdict::Verdict;
-use pages::draft::Draft;
-use pages::page;
+use amounts::decline::Decline;
+use encoding::bytes;
+use layout::frame;
+use layout::posts::POST_SIZE;
+use pages::counter::{BLOCK_SIZE, Counter};
 
+// The block holds the posts that wait.
 #[derive(Drop)]
 pub struct Writer<'a> {
     buffer: &'a mut [u8],
-    filled: usize,
-    draft: Draft,
+    counter: Counter,
+    block: [u8; 512],
+    pub ghost room_is: { counter.room ≡ length buffer.now },
 }
 
 impl<'a> Writer<'a> {
+    ghost use Rattle.pages.specs.Page.{posts_block, set_up_on, post_on, ended, Answers};
+    ghost use Rattle.writer.specs.Writer.{page, IsNew, Kept};
+
     pub fn new(buffer: &'a mut [u8]) -> Writer<'a>
-        ensures { (result ≡ fresh_writer buffer.entry) × Sound (page result) }
+        ensures { IsNew buffer.entry result }
     {
+        let counter = Counter::new(buffer.len());
         Writer {
             buffer,
-            filled: 0,
-            draft: page::fresh(),
+            counter,
+            block: [0; 512],
         }
     }
 
     // A set-up block of any kind, count and body.
-    pub fn set_up(&mut self, kind: u8, count: u8, body: &[u8]) -> Verdict
-        requires { Sound (page self.old) }
-        ensures { Kept self.old self.new
-            × Answers (page self.old) (set_up_on (page self.old) kind count body.now) result (page self.new) }
+    pub fn set_up(&mut self, kind: u8, count: u8, body: &[u8]) -> Result<(), Decline>
+        ensures kept { Kept self.old self.new }
+        ensures answers { Answers (page self.old) (set_up_on (page self.old) kind count body.now) result (page self.new) }
     {
-        let taken = page::take_set_up(
-            &mut *self.buffer,
-            self.filled,
-            self.draft,
-            kind,
-            count,
-            body,
-        );
-        self.filled = taken.filled;
-        self.draft = taken.draft;
-        taken.verdict
+        let number = self.counter.tally.blocks;
+        self.counter.set_up(kind, count, body)?;
+        let mut block = [0; 512];
+        bytes::put(&mut block, 8, body);
+        put_block(self.buffer, number, kind, count, block);
+        Ok(())
     }
 
-    // A post of any bytes.
-    pub fn post(&mut self, post: &[u8]) -> Verdict
-        requires { Sound (page self.old) }
-        ensures { Kept self.old self.new
-            × Answers (page self.old) (post_on (page self.old) post.now) result (page self.new) }
+    // The block with so many posts is written at its number, and the next one begun.
+    fn write_posts(&mut self, number: u32, count: u8)
+        requires number_bound { number < 65536 }
+        requires within { number * 512 + 512 ≤ length self.old.buffer.now }
+        ensures kept { Kept self.old self.new }
+        ensures counter_stays { self.new.counter ≡ self.old.counter }
+        ensures begun { self.new.block ≡ replicate 512 0 }
+        ensures written { self.new.buffer.now ≡ placed self.old.buffer.now (number * 512) (posts_block count number self.old.block) }
     {
-        let taken = page::take_post(&mut *self.buffer, self.filled, self.draft, post);
-        self.filled = taken.filled;
-        self.draft = taken.draft;
-        taken.verdict
+        put_block(self.buffer, number, 3, count, self.block);
+        self.block = [0; 512];
+    }
+
+    // A post of any bytes. The tenth of a block writes it.
+    pub fn post(&mut self, post: &[u8]) -> Result<(), Decline>
+        ensures kept { Kept self.old self.new }
+        ensures answers { Answers (page self.old) (post_on (page self.old) post.now) result (page self.new) }
+    {
+        let before = self.counter.tally;
+        self.counter.post(post)?;
+        bytes::put(
+            &mut self.block,
+            8 + usize::from(before.waiting) * POST_SIZE,
+            post,
+        );
+        if before.waiting == 9 {
+            self.write_posts(before.blocks, 10);
+        }
+        Ok(())
     }
 
     // The posts that wait are written. How many bytes are filled.
     pub fn end(&mut self) -> usize
-        requires { Sound (page self.old) }
-        ensures { Kept self.old self.new × (result ≡ self.new.filled)
-            × Answers (page self.old) (taken (ended (page self.old))) Accepted (page self.new) }
+        ensures kept { Kept self.old self.new }
+        ensures ends { page self.new ≡ ended (page self.old) }
+        ensures filled { result ≡ (page self.new).filled }
     {
-        let ended = page::end_posts(&mut *self.buffer, self.filled, self.draft);
-        self.filled = ended.filled;
-        self.draft = ended.draft;
-        ended.filled
+        let before = self.counter.tally;
+        let filled = self.counter.end();
+        if before.waiting != 0 {
+            self.write_posts(before.blocks, before.waiting);
+        }
+        filled
     }
+}
+
+// The block of a body and a number is put in its place.
+fn put_block(buffer: &mut [u8], number: u32, kind: u8, count: u8, block: [u8; 512])
+    requires number_bound { number < 65536 }
+    requires within { number * 512 + 512 ≤ length buffer.old }
+    ensures { buffer.new ≡ placed buffer.old (number * 512) (block_of kind count number (body_of block)) }
+{
+    let framed = frame::framed(block, kind, count, number as u16);
+    bytes::put(buffer, number as usize * BLOCK_SIZE, &framed);
 }

@@ -86,28 +86,6 @@ few : (n a : ℕ) → a < 10 ^ 20 → InCase n a → n ≤ 10
 few zero a f t = omega arith
 few (suc n) a f t = omega (arith, power_back (10 + n) 20 a t.0 f)
 
--- the case of an amount that is in case n
-case_is : (n a : ℕ) → a < 10 ^ 20 → InCase n a → case_of a ≡ case_at n
-case_is n a f t = let z = case_of_number a f in z.2 ∙ ap case_at (one_case z.0 n a z.1 t)
-
--- ---- the tests of `case_of`, in a row
-
--- the case is that of the amount, if the amount doesn't reach row n + 1
-abbrev pub UpTo : ℕ → ℕ → Case → Type 0
-UpTo n a c = a < 10 ^ (10 + n) → c ≡ case_of a
-
-pub up_to_first : (a : ℕ) → UpTo 0 a (case_at 0)
-up_to_first a l = sym (case_is 0 a (omega arith) (omega arith, l))
-
--- a test that is taken puts its own case in the place of the last one
-pub up_to_next : (n a : ℕ) (last c : Case) → a < 2 ^ 64 → UpTo n a last
-    → ((10 ^ (10 + n) ≤ a) × (c ≡ case_at (suc n))) ⊎ ((a < 10 ^ (10 + n)) × (c ≡ last)) → UpTo (suc n) a c
-up_to_next n a last c f t came l =
-    elim came [
-      | inl z ↦ z.1 ∙ sym (case_is (suc n) a (omega arith) (z.0, l))
-      | inr z ↦ z.1 ∙ t z.0
-    ]
-
 -- ---- the step
 
 -- what rounding uses of an amount and its step
@@ -140,6 +118,10 @@ unfolding step_of
 step_is a f =
     let z = case_of_number a (omega arith) in
     subst (λ (c : Case). Step a c.step) (sym z.2) (step_in z.0 a (omega arith) z.1)
+
+-- the same of a step that the code has
+pub step_there : (a s : ℕ) → a < 2 ^ 64 → s ≡ step_of a → Step a s
+step_there a s f e = subst (λ (k : ℕ). Step a k) (sym e) (step_is a f)
 
 -- ---- document 01's step
 

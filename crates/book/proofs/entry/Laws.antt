@@ -14,7 +14,10 @@ use Rattle.layout.specs.Outline.{may_post}
 use Rattle.layout.specs.declared.outline.Outline.{Outline}
 use Rattle.plant.specs.declared.setup.Setup.{Setup}
 use Rattle.encoding.proofs.Each.{sum_point}
-use Rattle.kinds.specs.Account.{held}
+use Rattle.kinds.specs.Account.{place}
+use Rattle.kinds.specs.declared.account.Account.{Account}
+use Rattle.kinds.specs.declared.account.Account.TheVariants.{Held}
+use Rattle.kinds.proofs.account.Laws.{place_few}
 use Rattle.post.specs.Admission.{has_room}
 use Rattle.post.specs.Moves.{closes}
 use Rattle.post.specs.Steps.{Fits}
@@ -24,7 +27,7 @@ use Rattle.book.specs.Entry.{is_there, store_after, sums_after, handled_after, y
 use Rattle.book.specs.Ledger.{cell_of, cell, total, added, brings}
 use Rattle.book.specs.Site.{SoundYear, stored_to, in_year, open_posts}
 use Rattle.plant.specs.Setup.{SoundSetup}
-use Rattle.book.specs.Steps.{widest, Room, Entered}
+use Rattle.book.specs.Steps.{widest, Room}
 use Rattle.book.specs.declared.site.Year.{Year}
 use Rattle.book.proofs.site.Laws.{open_posts_le, open_few}
 use Rattle.book.proofs.ledger.Laws.{total_set, total_other, cell_le, length_moved, total_moved, grown_le, length-settled, total_settled, length-raised, handled_raised, total_raised}
@@ -35,79 +38,54 @@ use Rattle.book.proofs.ledger.Laws.{total_set, total_other, cell_le, length_move
 pub brings_small : (counted : List ℕ) (m g s : ℕ) → ((i : ℕ) → get_or counted i 0 ≤ 1000000) → g ≤ 2000000000 → brings counted m g s ≤ 2 * 10 ^ 15
 brings_small counted m g s few hg = mul-le-mul {m₂ = 1000000} hg (few (m * 8 + s))
 
-module _ (counted store sums handled : List ℕ) where
-  abbrev Has : Move → Type 0
-  Has m = Room counted store sums handled m
+module _ (u : Setup) (y : Year) where
+  pub cell_few : (a : Account) (stage s : ℕ) {m : Move} → Room u y m → stage < 8 → s < 8 → cell y.sums a stage s ≤ 2 * 10 ^ 15 * 4000
+  cell_few a stage s r hst hs = omega (arith, r.totals s hs, cell_le y.sums (place a) stage s (place_few a) hst)
 
-  cell_few : (a stage s : ℕ) {m : Move} → Has m → a < 9 → stage < 8 → s < 8 → cell sums a stage s ≤ 2 * 10 ^ 15 * 4000
-  cell_few a stage s r ha hst hs = omega (arith, r.totals s hs, cell_le sums a stage s ha hst)
-
-  pub room_issued : (m stage g : ℕ) → Has (Issued m stage g)
+  pub room_issued : (m stage g : ℕ) → Room u y (Issued m stage g)
       → ((m < 12) × (stage < 8))
-      × (((s : ℕ) → s < 8 → get_or sums (cell_of held stage s) 0 + brings counted m g s < 2 ^ 64)
-      × ((s : ℕ) → s < 8 → get_or handled s 0 + brings counted m g s < 2 ^ 64))
+      × (((s : ℕ) → s < 8 → cell y.sums Held stage s + brings u.counted m g s < 2 ^ 64)
+      × ((s : ℕ) → s < 8 → get_or y.handled s 0 + brings u.counted m g s < 2 ^ 64))
   room_issued m stage g r =
       let f = r.fits in (
         (f.0, f.1.0),
         (
-          λ s hs. omega (arith, cell_few held stage s r (omega arith) f.1.0 hs, brings_small counted m g s r.counted_small f.1.1),
-          λ s hs. omega (arith, r.handled_few s hs, brings_small counted m g s r.counted_small f.1.1),
+          λ s hs. omega (arith, cell_few Held stage s r f.1.0 hs, brings_small u.counted m g s r.counted_small f.1.1),
+          λ s hs. omega (arith, r.handled_few s hs, brings_small u.counted m g s r.counted_small f.1.1),
         ),
       )
 
-  pub room_brought : (a stage s n : ℕ) → Has (Brought a stage s n) → (cell sums a stage s + n < 2 ^ 64) × (get_or handled s 0 + n < 2 ^ 64)
+  pub room_brought : (a : Account) (stage s n : ℕ) → Room u y (Brought a stage s n) → (cell y.sums a stage s + n < 2 ^ 64) × (get_or y.handled s 0 + n < 2 ^ 64)
   room_brought a stage s n r =
       let f = r.fits in (
-        omega (arith, cell_few a stage s r f.0 f.1.0 f.1.1.0, f.1.1.1),
-        omega (arith, r.handled_few s f.1.1.0, f.1.1.1),
+        omega (arith, cell_few a stage s r f.0 f.1.0, f.1.1),
+        omega (arith, r.handled_few s f.1.0, f.1.1),
       )
 
-  pub room_gone : (a stage s n : ℕ) → Has (Gone a stage s n) → n ≤ cell sums held stage s
-      → get_or (set sums (cell_of held stage s) (cell sums held stage s - n)) (cell_of a stage s) 0 + n < 2 ^ 64
+  pub room_gone : (a : Account) (stage s n : ℕ) → Room u y (Gone a stage s n) → n ≤ cell y.sums Held stage s
+      → get_or (set y.sums (cell_of Held stage s) (cell y.sums Held stage s - n)) (cell_of a stage s) 0 + n < 2 ^ 64
   room_gone a stage s n r have =
       let f = r.fits in
-      omega (arith, grown_le sums a stage s n f.0 f.1.0 f.1.1.0 r.sums_long have, r.totals s f.1.1.0)
+      omega (arith, grown_le y.sums (place a) stage s n (place_few a) f.0 f.1.0 r.sums_long have, r.totals s f.1.0)
 
-  pub room_close : Has Close → ((s : ℕ) → s < 8 → total sums s < 2 ^ 64) × (length sums ≡ 576)
+  pub room_close : Room u y Close → ((s : ℕ) → s < 8 → total y.sums s < 2 ^ 64) × (length y.sums ≡ 576)
   room_close r = (λ s hs. omega (arith, r.totals s hs), r.sums_long)
-
--- ---- a move entered, by its case
-
-module _ (counted : List ℕ) (sides : List Bool) (store sums handled store' sums' handled' : List ℕ) (m x : Move) (e : m ≡ x) where
-  pub left_out : is_there store sums x ≡ false → Entered counted sides store sums handled m store' sums' handled' false
-  left_out h =
-      record {
-        there = sym (ap (is_there store sums) e ∙ h);
-        store_is = λ q. absurd (true≢false (sym q));
-        sums_is = λ q. absurd (true≢false (sym q));
-        handled_is = λ q. absurd (true≢false (sym q));
-      }
-
-  pub put_in : is_there store sums x ≡ true → store' ≡ store_after store x → sums' ≡ sums_after counted sides sums x → handled' ≡ handled_after counted handled x
-      → Entered counted sides store sums handled m store' sums' handled' true
-  put_in h f g i =
-      record {
-        there = sym (ap (is_there store sums) e ∙ h);
-        store_is = λ q. f ∙ ap (store_after store) (sym e);
-        sums_is = λ q. g ∙ ap (sums_after counted sides sums) (sym e);
-        handled_is = λ q. i ∙ ap (handled_after counted handled) (sym e);
-      }
 
 -- ---- the room of a sound year
 
 fits_widest : (o : Outline) (m : Move) → o.substances ≤ 8 → o.materials ≤ 12 → o.stages ≤ 8 → Fits o m → Fits widest m
 fits_widest o (Received m g) hs hm hst f = (omega (arith, f.0), f.1)
 fits_widest o (Issued m stage g) hs hm hst f = (omega (arith, f.0), (omega (arith, f.1.0), f.1.1))
-fits_widest o (Brought a stage s n) hs hm hst f = (f.0, (omega (arith, f.1.0), (omega (arith, f.1.1.0), f.1.1.1)))
-fits_widest o (Gone a stage s n) hs hm hst f = (f.0, (omega (arith, f.1.0), (omega (arith, f.1.1.0), f.1.1.1)))
+fits_widest o (Brought a stage s n) hs hm hst f = (omega (arith, f.0), (omega (arith, f.1.0), f.1.1))
+fits_widest o (Gone a stage s n) hs hm hst f = (omega (arith, f.0), (omega (arith, f.1.0), f.1.1))
 fits_widest o Close hs hm hst f = tt
 
 module _ (u : Setup) (y : Year) (su : SoundSetup u) (h : SoundYear u y) where
   pub total_few : (s : ℕ) → s < 8 → total y.sums s ≤ 2 * 10 ^ 15 * open_posts y.closed y.posts
   total_few s hs = omega (arith, h.bounded s hs)
 
-  pub room_of : (m : Move) → Fits u.outline m → Room u.counted y.store y.sums y.handled m
-  room_of m f =
+  pub room_of : (m : Move) → Fits u.outline m → y.closed ≡ false → Room u y m
+  room_of m f is_open =
       let few = h.posts_few in
       record {
         fits = fits_widest u.outline m su.substances_few su.materials_few su.stages_few f;
@@ -116,6 +94,7 @@ module _ (u : Setup) (y : Year) (su : SoundSetup u) (h : SoundYear u y) where
         sums_long = h.sums_long;
         totals = λ s hs. omega (arith, few, total_few s hs);
         handled_few = λ s hs. omega (arith, few, total_few s hs, h.weighed s hs);
+        posts_few = open_few u y h is_open;
       }
 
 -- ---- the store
@@ -160,12 +139,12 @@ added_at l t n s h = go (ℕ_discrete s t)
     go (no d) = rw (ne_eqb t s (λ e. d (sym e))) (omega (arith, get_or-set_other l t s (get_or l t 0 + n) 0 d))
 
 -- one added to a cell is added to its substance's total
-total_added : (l : List ℕ) (a stage t n s : ℕ) → a < 9 → stage < 8 → t < 8 → length l ≡ 576 → s < 8 → total (added l (cell_of a stage t) n) s ≡ total l s + cond (eqb t s) n 0
-total_added l a stage t n s ha hst ht long hs = go (ℕ_discrete s t)
+total_added : (l : List ℕ) (a : Account) (stage t n s : ℕ) → stage < 8 → t < 8 → length l ≡ 576 → s < 8 → total (added l (cell_of a stage t) n) s ≡ total l s + cond (eqb t s) n 0
+total_added l a stage t n s hst ht long hs = go (ℕ_discrete s t)
   where
     go : Dec (s ≡ t) → total (added l (cell_of a stage t) n) s ≡ total l s + cond (eqb t s) n 0
-    go (yes e) = rw (e, eq-eqb t t refl) (omega (arith, total_set l a stage t (cell l a stage t + n) ha hst ht long))
-    go (no d) = rw (ne_eqb t s (λ e. d (sym e))) (omega (arith, total_other l a stage t (cell l a stage t + n) s ht hs d))
+    go (yes e) = rw (e, eq-eqb t t refl) (omega (arith, total_set l (place a) stage t (cell l a stage t + n) (place_few a) hst ht long))
+    go (no d) = rw (ne_eqb t s (λ e. d (sym e))) (omega (arith, total_other l (place a) stage t (cell l a stage t + n) s ht hs d))
 
 some_or_none : (t : Bool) (n most : ℕ) → n ≤ most → cond t n 0 ≤ most
 some_or_none true n most h = h
@@ -204,7 +183,7 @@ module _ (u : Setup) (y : Year) (h : SoundYear u y) where
   abbrev counted : List ℕ
   counted = u.counted
 
-  leaves : (m : Move) → Room u.counted y.store y.sums y.handled m → is_there y.store y.sums m ≡ true → Leaves u y m
+  leaves : (m : Move) → Room u y m → is_there y.store y.sums m ≡ true → Leaves u y m
   leaves (Received m g) r t =
       let f = r.fits in
       record {
@@ -223,7 +202,7 @@ module _ (u : Setup) (y : Year) (h : SoundYear u y) where
       let amount = brings counted m g in
       record {
         store_long = length-set y.store m (get_or y.store m 0 - g) ∙ h.store_long;
-        sums_long = length-raised (cell_of held stage) amount y.sums 8 ∙ h.sums_long;
+        sums_long = length-raised (cell_of Held stage) amount y.sums 8 ∙ h.sums_long;
         handled_long = length-raised (λ s. s) amount y.handled 8 ∙ h.handled_long;
         totals = λ s hs. total_raised amount y.sums stage f.1.0 h.sums_long s hs;
         counts = λ s hs. handled_raised amount y.handled s h.handled_long hs;
@@ -237,20 +216,20 @@ module _ (u : Setup) (y : Year) (h : SoundYear u y) where
         store_long = h.store_long;
         sums_long = length-set y.sums (cell_of a stage t) (cell y.sums a stage t + n) ∙ h.sums_long;
         handled_long = length-set y.handled t (get_or y.handled t 0 + n) ∙ h.handled_long;
-        totals = λ s hs. total_added y.sums a stage t n s f.0 f.1.0 f.1.1.0 h.sums_long hs;
-        counts = λ s hs. added_at y.handled t n s (omega (arith, h.handled_long, f.1.1.0));
+        totals = λ s hs. total_added y.sums a stage t n s f.0 f.1.0 h.sums_long hs;
+        counts = λ s hs. added_at y.handled t n s (omega (arith, h.handled_long, f.1.0));
         stored = λ s hs. omega arith;
-        few = λ s hs. omega (arith, some_or_none (eqb t s) n (2 * 10 ^ 15) f.1.1.1);
+        few = λ s hs. omega (arith, some_or_none (eqb t s) n (2 * 10 ^ 15) f.1.1);
         stores = λ i hi. omega (arith, stores_same i hi);
       }
   leaves (Gone a stage t n) r q =
       let f = r.fits in
-      let have = leb-true n (cell y.sums held stage t) q in
+      let have = leb-true n (cell y.sums Held stage t) q in
       record {
         store_long = h.store_long;
-        sums_long = length_moved y.sums (cell_of held stage t) (cell_of a stage t) n ∙ h.sums_long;
+        sums_long = length_moved y.sums (cell_of Held stage t) (cell_of a stage t) n ∙ h.sums_long;
         handled_long = h.handled_long;
-        totals = λ s hs. omega (arith, total_moved y.sums a stage t n f.0 f.1.0 f.1.1.0 h.sums_long have s hs);
+        totals = λ s hs. omega (arith, total_moved y.sums (place a) stage t n (place_few a) f.0 f.1.0 h.sums_long have s hs);
         counts = λ s hs. omega arith;
         stored = λ s hs. omega arith;
         few = λ s hs. omega arith;
@@ -276,7 +255,7 @@ still_few false posts h few = omega (arith, ltb-true posts 4000 h)
 pub stepped : (u : Setup) (y : Year) (m : Move) → SoundSetup u → SoundYear u y → may_post u.outline ≡ true → y.closed ≡ false → Fits u.outline m
     → has_room y.posts m ≡ true → is_there y.store y.sums m ≡ true → Step u y m (year_after u y m)
 stepped u y m su h turn is_open fit room there =
-    let w = leaves u y h m (room_of u y su h m fit) there in
+    let w = leaves u y h m (room_of u y su h m fit is_open) there in
     record {
       sound =
           record {

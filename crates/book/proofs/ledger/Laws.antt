@@ -10,14 +10,30 @@ use lib.ListN.{length, get_or, set, length-set}
 use lib.Seq.{get_or-set_same, get_or-set_other}
 use Rattle.encoding.specs.Each.{sum_to, put_to}
 use Rattle.encoding.proofs.Each.{put_again, length-put, put_other, put_at, sum_same, sum_point, term_le}
-use Rattle.kinds.specs.Account.{held, closes_to}
-use Rattle.book.specs.Ledger.{at, cell_of, cell, total, moved, raised, settled}
+use Rattle.kinds.specs.Account.{place, closes_to}
+use Rattle.kinds.specs.declared.account.Account.TheVariants.{Held}
+use Rattle.book.specs.Ledger.{at, total, moved, raised, settled}
+
+-- An account is its place here, from 0 to 8.
+
+abbrev pub held : ℕ
+held = place Held
+
+abbrev pub spot : ℕ → ℕ → ℕ → ℕ
+spot account stage s = at account (stage * 8 + s)
+
+abbrev pub sum_at : List ℕ → ℕ → ℕ → ℕ → ℕ
+sum_at l account stage s = get_or l (spot account stage s) 0
+
+-- where the close moves a holding
+abbrev pub closing : Bool → ℕ
+closing water = place (closes_to water)
 
 -- ---- one write
 
 -- what the accounts of a stage hold of a substance
 abbrev pub column : List ℕ → ℕ → ℕ → ℕ
-column sums s stage = sum_to 9 (λ account. cell sums account stage s)
+column sums s stage = sum_to 9 (λ account. sum_at sums account stage s)
 
 pub total_is : (sums : List ℕ) (s : ℕ) → total sums s ≡ sum_to 8 (column sums s)
 unfolding total
@@ -34,61 +50,61 @@ same_digit x y k j hk hj e = go (dec_lt x y) (dec_lt y x)
 
 -- a write to a cell changes its substance's total as it does the cell
 pub total_set : (l : List ℕ) (account stage s v : ℕ) → account < 9 → stage < 8 → s < 8 → length l ≡ 576
-    → total (set l (cell_of account stage s) v) s + cell l account stage s ≡ total l s + v
+    → total (set l (spot account stage s) v) s + sum_at l account stage s ≡ total l s + v
 total_set l account stage s v ha hst hs long =
-    let m = set l (cell_of account stage s) v in
-    let elsewhere : (x k : ℕ) → (cell_of x k s ≡ cell_of account stage s → ⊥) → cell m x k s ≡ cell l x k s = λ x k ne. get_or-set_other l (cell_of account stage s) (cell_of x k s) v 0 ne in
+    let m = set l (spot account stage s) v in
+    let elsewhere : (x k : ℕ) → (spot x k s ≡ spot account stage s → ⊥) → sum_at m x k s ≡ sum_at l x k s = λ x k ne. get_or-set_other l (spot account stage s) (spot x k s) v 0 ne in
     let stages = sum_point 8 stage (column m s) (column l s) hst
-    (λ k hk ne. sum_same 9 (λ x. cell m x k s) (λ x. cell l x k s) (λ x hx. elsewhere x k (λ e. ne (same_digit x account k stage hk hst (omega arith))))) in
-    let accounts = sum_point 9 account (λ x. cell m x stage s) (λ x. cell l x stage s) ha (λ x hx ne. elsewhere x stage (λ e. ne (omega arith))) in
-    omega (arith, total_is m s, total_is l s, stages, accounts, get_or-set_same l (cell_of account stage s) v 0 (omega arith))
+    (λ k hk ne. sum_same 9 (λ x. sum_at m x k s) (λ x. sum_at l x k s) (λ x hx. elsewhere x k (λ e. ne (same_digit x account k stage hk hst (omega arith))))) in
+    let accounts = sum_point 9 account (λ x. sum_at m x stage s) (λ x. sum_at l x stage s) ha (λ x hx ne. elsewhere x stage (λ e. ne (omega arith))) in
+    omega (arith, total_is m s, total_is l s, stages, accounts, get_or-set_same l (spot account stage s) v 0 (omega arith))
 
 -- and another's not at all
-pub total_other : (l : List ℕ) (account stage s v t : ℕ) → s < 8 → t < 8 → (t ≡ s → ⊥) → total (set l (cell_of account stage s) v) t ≡ total l t
+pub total_other : (l : List ℕ) (account stage s v t : ℕ) → s < 8 → t < 8 → (t ≡ s → ⊥) → total (set l (spot account stage s) v) t ≡ total l t
 total_other l account stage s v t hs ht ne =
-    let m = set l (cell_of account stage s) v in
+    let m = set l (spot account stage s) v in
     total_is m t
     ∙ sum_same 8 (column m t) (column l t)
-    (λ k hk. sum_same 9 (λ x. cell m x k t) (λ x. cell l x k t) (λ x hx. get_or-set_other l (cell_of account stage s) (cell_of x k t) v 0 (λ e. ne (omega arith))))
+    (λ k hk. sum_same 9 (λ x. sum_at m x k t) (λ x. sum_at l x k t) (λ x hx. get_or-set_other l (spot account stage s) (spot x k t) v 0 (λ e. ne (omega arith))))
     ∙ sym (total_is l t)
 
 -- a cell is at most its substance's total
-pub cell_le : (l : List ℕ) (account stage s : ℕ) → account < 9 → stage < 8 → cell l account stage s ≤ total l s
+pub cell_le : (l : List ℕ) (account stage s : ℕ) → account < 9 → stage < 8 → sum_at l account stage s ≤ total l s
 cell_le l account stage s ha hst =
-    omega (arith, total_is l s, term_le 8 stage (column l s) hst, term_le 9 account (λ x. cell l x stage s) ha)
+    omega (arith, total_is l s, term_le 8 stage (column l s) hst, term_le 9 account (λ x. sum_at l x stage s) ha)
 
 -- ---- a transfer
 
 pub length_moved : (l : List ℕ) (from to n : ℕ) → length (moved l from to n) ≡ length l
 length_moved l from to n = simp length-set
 
-module _ (l : List ℕ) (account stage s n : ℕ) (ha : account < 9) (hst : stage < 8) (hs : s < 8) (long : length l ≡ 576) (have : n ≤ cell l held stage s) where
-  total_moved_same : total (moved l (cell_of held stage s) (cell_of account stage s) n) s ≡ total l s
+module _ (l : List ℕ) (account stage s n : ℕ) (ha : account < 9) (hst : stage < 8) (hs : s < 8) (long : length l ≡ 576) (have : n ≤ sum_at l held stage s) where
+  total_moved_same : total (moved l (spot held stage s) (spot account stage s) n) s ≡ total l s
   total_moved_same =
-      let m = set l (cell_of held stage s) (cell l held stage s - n) in
+      let m = set l (spot held stage s) (sum_at l held stage s - n) in
       omega (
         arith,
-        total_set l held stage s (cell l held stage s - n) (omega arith) hst hs long,
-        total_set m account stage s (cell m account stage s + n) ha hst hs (length-set l (cell_of held stage s) (cell l held stage s - n) ∙ long),
+        total_set l held stage s (sum_at l held stage s - n) (omega arith) hst hs long,
+        total_set m account stage s (sum_at m account stage s + n) ha hst hs (length-set l (spot held stage s) (sum_at l held stage s - n) ∙ long),
       )
 
   -- a transfer keeps every total
-  pub total_moved : (t : ℕ) → t < 8 → total (moved l (cell_of held stage s) (cell_of account stage s) n) t ≡ total l t
+  pub total_moved : (t : ℕ) → t < 8 → total (moved l (spot held stage s) (spot account stage s) n) t ≡ total l t
   total_moved t ht = go (ℕ_discrete t s)
     where
-      go : Dec (t ≡ s) → total (moved l (cell_of held stage s) (cell_of account stage s) n) t ≡ total l t
+      go : Dec (t ≡ s) → total (moved l (spot held stage s) (spot account stage s) n) t ≡ total l t
       go (yes e) = rw e total_moved_same
       go (no d) =
-          let m = set l (cell_of held stage s) (cell l held stage s - n) in
-          total_other m account stage s (cell m account stage s + n) t hs ht d ∙ total_other l held stage s (cell l held stage s - n) t hs ht d
+          let m = set l (spot held stage s) (sum_at l held stage s - n) in
+          total_other m account stage s (sum_at m account stage s + n) t hs ht d ∙ total_other l held stage s (sum_at l held stage s - n) t hs ht d
 
   -- what the account then holds is at most the total
-  pub grown_le : cell (set l (cell_of held stage s) (cell l held stage s - n)) account stage s + n ≤ total l s
+  pub grown_le : sum_at (set l (spot held stage s) (sum_at l held stage s - n)) account stage s + n ≤ total l s
   grown_le =
-      let m = set l (cell_of held stage s) (cell l held stage s - n) in
-      let v = cell m account stage s + n in
-      let stays : length m ≡ 576 = length-set l (cell_of held stage s) (cell l held stage s - n) ∙ long in
-      omega (arith, cell_le (set m (cell_of account stage s) v) account stage s ha hst, get_or-set_same m (cell_of account stage s) v 0 (omega arith), total_moved_same)
+      let m = set l (spot held stage s) (sum_at l held stage s - n) in
+      let v = sum_at m account stage s + n in
+      let stays : length m ≡ 576 = length-set l (spot held stage s) (sum_at l held stage s - n) ∙ long in
+      omega (arith, cell_le (set m (spot account stage s) v) account stage s ha hst, get_or-set_same m (spot account stage s) v 0 (omega arith), total_moved_same)
 
 -- the same by the pair's place
 module _ (l : List ℕ) (account pair n : ℕ) (ha : account < 9) (hp : pair < 64) (long : length l ≡ 576) (have : n ≤ get_or l (at held pair) 0) where
@@ -103,18 +119,18 @@ module _ (l : List ℕ) (account pair n : ℕ) (ha : account < 9) (hp : pair < 6
 
 -- ---- the close
 
-pub closes_below : (to_water : Bool) → closes_to to_water < 9
+pub closes_below : (to_water : Bool) → closing to_water < 9
 unfolding closes_to
 closes_below true = omega arith
 closes_below false = omega arith
 
 module _ (l : List ℕ) (sides : List Bool) where
-  settled_again : (k : ℕ) → settled l sides (k + 1) ≡ moved (settled l sides k) (at held k) (at (closes_to (get_or sides k false)) k) (get_or (settled l sides k) (at held k) 0)
+  settled_again : (k : ℕ) → settled l sides (k + 1) ≡ moved (settled l sides k) (at held k) (at (closing (get_or sides k false)) k) (get_or (settled l sides k) (at held k) 0)
   unfolding settled
   settled_again k = rw add-one
 
   -- one pair more
-  pub settled_more : (k : ℕ) (out : List ℕ) (to : ℕ) → out ≡ settled l sides k → to ≡ closes_to (get_or sides k false)
+  pub settled_more : (k : ℕ) (out : List ℕ) (to : ℕ) → out ≡ settled l sides k → to ≡ closing (get_or sides k false)
       → moved out (at held k) (at to k) (get_or out (at held k) 0) ≡ settled l sides (k + 1)
   settled_more k out to e w =
       ap (λ (x : List ℕ). moved x (at held k) (at to k) (get_or x (at held k) 0)) e
@@ -124,14 +140,14 @@ module _ (l : List ℕ) (sides : List Bool) where
   pub length-settled : (k : ℕ) → length (settled l sides k) ≡ length l
   unfolding settled
   length-settled zero = refl
-  length-settled (suc k) = length_moved (settled l sides k) (at held k) (at (closes_to (get_or sides k false)) k) (get_or (settled l sides k) (at held k) 0) ∙ length-settled k
+  length-settled (suc k) = length_moved (settled l sides k) (at held k) (at (closing (get_or sides k false)) k) (get_or (settled l sides k) (at held k) 0) ∙ length-settled k
 
   -- closing keeps every total
   pub total_settled : (k t : ℕ) → k ≤ 64 → t < 8 → length l ≡ 576 → total (settled l sides k) t ≡ total l t
   unfolding settled
   total_settled zero t hk ht long = refl
   total_settled (suc k) t hk ht long =
-      total_moved_at (settled l sides k) (closes_to (get_or sides k false)) k (get_or (settled l sides k) (at held k) 0)
+      total_moved_at (settled l sides k) (closing (get_or sides k false)) k (get_or (settled l sides k) (at held k) 0)
       (closes_below (get_or sides k false)) (omega arith) (length-settled k ∙ long) (omega arith) t ht
       ∙ total_settled k t (omega arith) ht long
 
@@ -177,36 +193,36 @@ module _ (place amount : ℕ → ℕ) (l : List ℕ) (own : (i k : ℕ) → plac
 pub handled_raised : (amount : ℕ → ℕ) (l : List ℕ) (s : ℕ) → length l ≡ 8 → s < 8 → get_or (raised (λ k. k) amount l 8) s 0 ≡ get_or l s 0 + amount s
 handled_raised amount l s long hs = raised_at (λ k. k) amount l 8 s (λ i k e. e) hs (omega arith)
 
-pub own_place : (stage i k : ℕ) → cell_of held stage i ≡ cell_of held stage k → i ≡ k
+pub own_place : (stage i k : ℕ) → spot held stage i ≡ spot held stage k → i ≡ k
 own_place stage i k e = omega arith
 
 module _ (amount : ℕ → ℕ) (l : List ℕ) (stage : ℕ) (hst : stage < 8) (long : length l ≡ 576) where
-  raised_before : (n s : ℕ) → n ≤ s → s < 8 → total (raised (cell_of held stage) amount l n) s ≡ total l s
+  raised_before : (n s : ℕ) → n ≤ s → s < 8 → total (raised (spot held stage) amount l n) s ≡ total l s
   unfolding put_to
   raised_before zero s h hs = refl
   raised_before (suc n) s h hs =
-      total_other (raised (cell_of held stage) amount l n) held stage n (cell l held stage n + amount n) s (omega arith) hs (λ e. omega arith)
+      total_other (raised (spot held stage) amount l n) held stage n (sum_at l held stage n + amount n) s (omega arith) hs (λ e. omega arith)
       ∙ raised_before n s (omega arith) hs
 
-  raised_total_to : (n s : ℕ) → s < n → n ≤ 8 → total (raised (cell_of held stage) amount l n) s ≡ total l s + amount s
+  raised_total_to : (n s : ℕ) → s < n → n ≤ 8 → total (raised (spot held stage) amount l n) s ≡ total l s + amount s
   unfolding put_to
   raised_total_to zero s h hn = absurd (omega arith)
   raised_total_to (suc n) s h hn = go (ℕ_discrete s n) (raised_total_to n s)
     where
-      go : Dec (s ≡ n) → (s < n → n ≤ 8 → total (raised (cell_of held stage) amount l n) s ≡ total l s + amount s)
-          → total (set (raised (cell_of held stage) amount l n) (cell_of held stage n) (cell l held stage n + amount n)) s ≡ total l s + amount s
+      go : Dec (s ≡ n) → (s < n → n ≤ 8 → total (raised (spot held stage) amount l n) s ≡ total l s + amount s)
+          → total (set (raised (spot held stage) amount l n) (spot held stage n) (sum_at l held stage n + amount n)) s ≡ total l s + amount s
       go (yes e) before =
           rw e
           (omega (
             arith,
-            total_set (raised (cell_of held stage) amount l n) held stage n (cell l held stage n + amount n) (omega arith) hst (omega arith) (length-raised (cell_of held stage) amount l n ∙ long),
-            raised_later (cell_of held stage) amount l n n (own_place stage) (omega arith),
+            total_set (raised (spot held stage) amount l n) held stage n (sum_at l held stage n + amount n) (omega arith) hst (omega arith) (length-raised (spot held stage) amount l n ∙ long),
+            raised_later (spot held stage) amount l n n (own_place stage) (omega arith),
             raised_before n n (omega arith) (omega arith),
           ))
       go (no d) before =
-          total_other (raised (cell_of held stage) amount l n) held stage n (cell l held stage n + amount n) s (omega arith) (omega arith) d
+          total_other (raised (spot held stage) amount l n) held stage n (sum_at l held stage n + amount n) s (omega arith) (omega arith) d
           ∙ before (omega arith) (omega arith)
 
   -- the total of each substance grows by its amount
-  pub total_raised : (s : ℕ) → s < 8 → total (raised (cell_of held stage) amount l 8) s ≡ total l s + amount s
+  pub total_raised : (s : ℕ) → s < 8 → total (raised (spot held stage) amount l 8) s ≡ total l s + amount s
   total_raised s hs = raised_total_to 8 s hs (omega arith)

@@ -10,9 +10,10 @@ use Rattle.encoding.specs.Each.{sum_to}
 use Rattle.plant.specs.declared.setup.Setup.{Setup}
 use Rattle.encoding.proofs.Each.{sum_none}
 use Rattle.plant.proofs.setup.Taken.{same_at, fresh_sound}
-use Rattle.book.specs.Ledger.{total, cell_of}
+use Rattle.book.specs.Ledger.{total}
 use Rattle.book.specs.Site.{Sound, SoundYear, fresh_book, stored_to, open_posts}
 use Rattle.book.specs.declared.site.Year.{Year}
+use Rattle.book.proofs.ledger.Laws.{spot, sum_at}
 
 -- the close is one of a year's posts at most
 pub open_posts_le : (closed : Bool) (posts : ℕ) → (open_posts closed posts ≤ posts) × (posts ≤ open_posts closed posts + 1)
@@ -30,9 +31,9 @@ stored_none store counted s h =
 pub total_none : (n s : ℕ) → total (replicate n 0) s ≡ 0
 unfolding total
 total_none n s =
-    sum_none 8 (λ stage. sum_to 9 (λ account. get_or (replicate n 0) (cell_of account stage s) 0))
+    sum_none 8 (λ stage. sum_to 9 (λ account. sum_at (replicate n 0) account stage s))
     (λ stage h.
-    sum_none 9 (λ account. get_or (replicate n 0) (cell_of account stage s) 0) (λ account g. same_at {A = ℕ} n (cell_of account stage s) 0))
+    sum_none 9 (λ account. sum_at (replicate n 0) account stage s) (λ account g. same_at {A = ℕ} n (spot account stage s) 0))
 
 pub sound_fresh : Sound fresh_book
 sound_fresh =

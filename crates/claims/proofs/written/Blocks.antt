@@ -1,20 +1,20 @@
 -- Blocks in turn, and what a set-up block and a block of posts that are made tell and pass. Assumes nothing.
-use mathlib.Core.Path.{◌≡◌, refl, sym, ap, subst, ◌∙◌}
+use mathlib.Core.Path.{◌≡◌, refl, ap, ◌∙◌}
 use mathlib.Core.Bool.{true, false}
-use mathlib.Core.List.{List, [], ◌∷◌, ◌++◌, append_assoc, append-nil}
+use mathlib.Core.List.{List, [], ◌∷◌, ◌++◌}
 use Prim.Native.Nat.{ℕ, zero, suc, ◌+◌, ◌-◌, ◌*◌, ◌≤◌, ◌<◌}
 use native.Mathlib.Omega.{arith}
 use borrow.Author.Tests.{eq-eqb, le-leb}
 use lib.ListN.{length, get_or, drop, length-append}
 use lib.Seq.{drop_at}
-use Rattle.amounts.specs.Decline.{Answer, taken, Check, checked, on_taken, is_taken}
+use Rattle.std.proofs.lemmas.Grind.{common_steps}
+use Rattle.std.specs.Prelude.{Ok}
+use Rattle.amounts.specs.Decline.{is_taken}
 use Rattle.encoding.specs.Bytes.{padded, all_zero, within}
-use Rattle.encoding.specs.Each.{list_to}
 use Rattle.layout.specs.Frame.{block_kind, count_of, body_of, block_of}
 use Rattle.layout.specs.Holds.{holds_of}
 use Rattle.layout.specs.Outline.{may_post}
 use Rattle.layout.specs.Posts.{post_in, own_checks}
-use Rattle.layout.specs.declared.holds.Holds.{Holds}
 use Rattle.layout.specs.declared.holds.Holds.TheVariants.{SetUp, Posts}
 use Rattle.layout.specs.declared.holds.SetupPart.{SetupPart}
 use Rattle.layout.specs.declared.outline.Outline.{Outline}
@@ -45,27 +45,27 @@ pub pass_last : (place : ℕ) (o : Outline) (blocks : List (List ℕ)) (s : List
     → AllPass place o (blocks ++ (s ∷ []))
 pass_last place o [] s h p =
     let e : place + 0 ≡ place = omega arith in
-    (subst (λ (n : ℕ). Passes n o s) e p, tt)
+    (rw e at p, tt)
 pass_last place o (x ∷ blocks) s h p =
     let e : place + suc (length blocks) ≡ suc place + length blocks = omega arith in
-    (h.0, pass_last (suc place) (outline_past o x) blocks s h.1 (subst (λ (n : ℕ). Passes n (outline_over (outline_past o x) blocks) s) e p))
+    (h.0, pass_last (suc place) (outline_past o x) blocks s h.1 (rw e at p))
 
 -- its posts come last
 pub posts_last : (blocks : List (List ℕ)) (s : List ℕ) → posts_in_all (blocks ++ (s ∷ [])) ≡ posts_in_all blocks ++ posts_in s
 unfolding posts_in_all
-posts_last [] s = append-nil (posts_in s)
-posts_last (x ∷ blocks) s = ap (λ (r : List (List ℕ)). posts_in x ++ r) (posts_last blocks s) ∙ sym (append_assoc (posts_in x) (posts_in_all blocks) (posts_in s))
+posts_last [] s = grind (arith, common_steps)
+posts_last (x ∷ blocks) s = grind (arith, common_steps, posts_last blocks s)
 
 -- ---- a set-up block
 
 within_is : (low high n : ℕ) → low ≤ n → n ≤ high → within low high n ≡ true
 within_is low high n l h = rw (le-leb low n l, le-leb n high h)
 
-module _ (kind count number : ℕ) (body : List ℕ) (part : SetupPart) (holds : holds_of kind ≡ taken (SetUp part)) where
+module _ (kind count number : ℕ) (body : List ℕ) (part : SetupPart) (holds : holds_of kind ≡ Ok (SetUp part)) where
   abbrev set : List ℕ
   set = block_of kind count number body
 
-  of_part : holds_of (block_kind set) ≡ taken (SetUp part)
+  of_part : holds_of (block_kind set) ≡ Ok (SetUp part)
   of_part = held_made kind count number body (SetUp part) holds
 
   pub set_up_holds : posts_in set ≡ []
@@ -88,10 +88,7 @@ module _ (kind count number : ℕ) (body : List ℕ) (part : SetupPart) (holds :
     set_up_passes small rows =
         record {
           frame = ap is_taken (made_passes kind count number body long set (ap is_taken holds) small);
-          body =
-              ap (λ (a : Answer Holds). is_taken (on_taken a (λ h. checked (body_rows o set h) set))) of_part
-              ∙ ap (λ (r : List Check). is_taken (checked r set)) rows_are
-              ∙ ap is_taken (pass_taken (part_checks o part count body) set rows);
+          body = rw (of_part, rows_are, pass_taken (part_checks o part count body) set rows);
           posts = λ e. absurd (not_posts part of_part e);
         }
 
@@ -124,7 +121,7 @@ module _ (number : ℕ) (posts : List (List ℕ)) where
   abbrev pub block_of_posts : List ℕ
   block_of_posts = block_of 3 (length posts) number (posts_body posts)
 
-  is_posts : holds_of (block_kind block_of_posts) ≡ taken Posts
+  is_posts : holds_of (block_kind block_of_posts) ≡ Ok Posts
   is_posts = held_made 3 (length posts) number (posts_body posts) Posts of_posts_lem
 
   pub posts_outline : (o : Outline) → outline_past o block_of_posts ≡ o
@@ -144,11 +141,7 @@ module _ (number : ℕ) (posts : List (List ℕ)) where
     count_is = count_made 3 (length posts) number (posts_body posts)
 
     pub posts_held : posts_in block_of_posts ≡ posts
-    posts_held =
-        ap (posts_by block_of_posts) is_posts
-        ∙ ap (λ (n : ℕ). list_to n (post_in (body_of block_of_posts))) count_is
-        ∙ ap (λ (s : List ℕ). list_to (length posts) (post_in s)) body_is
-        ∙ parts_are 48 posts (zeros (500 - length (joined posts))) each
+    posts_held = rw (is_posts, count_is, body_is) (parts_are 48 posts (zeros (500 - length (joined posts))) each)
 
     -- the places behind the last post are zero
     rest_zero : all_zero (drop (length posts * 48) (posts_body posts)) ≡ true
@@ -158,24 +151,19 @@ module _ (number : ℕ) (posts : List (List ℕ)) where
 
     module _ (o : Outline) (turn : may_post o ≡ true) (some : 1 ≤ length posts) where
       own_rows : body_rows o block_of_posts Posts ≡ own_checks o false (length posts) (posts_body posts)
-      own_rows =
-          ap (λ (n : ℕ). own_checks o false n (body_of block_of_posts)) count_is
-          ∙ ap (λ (s : List ℕ). own_checks o false (length posts) s) body_is
+      own_rows = rw (count_is, body_is)
 
       own_pass : table.AllPass (own_checks o false (length posts) (posts_body posts))
       own_pass = (turn, (refl, (eq-eqb (length (posts_body posts)) 500 body_long, (within_is 1 10 (length posts) some few, (rest_zero, tt)))))
 
       post_at_lem : (i : ℕ) → i < length posts → post_in (body_of block_of_posts) i ≡ get_or posts i []
-      post_at_lem i l = ap (λ (s : List ℕ). post_in s i) body_is ∙ part_is 48 posts (zeros (500 - length (joined posts))) each i l
+      post_at_lem i l = rw body_is (part_is 48 posts (zeros (500 - length (joined posts))) each i l)
 
       pub posts_pass : number < 65536 → EachFormed o posts → Passes number o block_of_posts
       posts_pass small formed =
           record {
             frame = ap is_taken (made_passes 3 (length posts) number (posts_body posts) body_long block_of_posts (ap is_taken of_posts_lem) small);
-            body =
-                ap (λ (a : Answer Holds). is_taken (on_taken a (λ h. checked (body_rows o block_of_posts h) block_of_posts))) is_posts
-                ∙ ap (λ (r : List Check). is_taken (checked r block_of_posts)) own_rows
-                ∙ ap is_taken (pass_taken (own_checks o false (length posts) (posts_body posts)) block_of_posts own_pass);
+            body = rw (is_posts, own_rows, pass_taken (own_checks o false (length posts) (posts_body posts)) block_of_posts own_pass);
             posts = λ e i l.
                 let within : i < length posts = omega (arith, count_is) in
                 ap (λ (s : List ℕ). is_taken (well_formed o s)) (post_at_lem i within) ∙ formed_at o posts formed i within;

@@ -1,14 +1,14 @@
 -- Lists put at a place of a list, and lists one behind the other. Assumes nothing.
 use mathlib.Core.Path.{◌≡◌, refl, sym, ap, ◌∙◌}
-use mathlib.Core.Bool.{Bool, true}
+use mathlib.Core.Bool.{true}
 use mathlib.Core.List.{List, [], ◌∷◌, ◌++◌, append_assoc, append-nil}
 use Prim.Native.Nat.{ℕ, zero, suc, ◌+◌, ◌*◌, ◌≤◌, ◌<◌}
 use native.Mathlib.Omega.{arith}
-use borrow.Author.Tests.{eq-eqb}
-use lib.ListN.{length, get_or, take, drop, replicate, length-append, length-replicate, get_or-replicate, replicate-append-replicate}
+use lib.ListN.{length, get_or, take, drop, replicate, length-append, length-replicate, replicate-append-replicate}
 use lib.Seq.{take_at, drop_at, drop-drop, drop-append-add, ext_get_or}
+use Rattle.std.proofs.lemmas.Grind.{common_steps}
 use Rattle.encoding.specs.Bytes.{all_zero, placed}
-use Rattle.encoding.specs.Each.{all_to, list_to}
+use Rattle.encoding.specs.Each.{list_to}
 use Rattle.layout.specs.Posts.{part_of}
 use Rattle.encoding.proofs.Each.{length_list, list_at}
 use Rattle.encoding.proofs.bytes.Placed.{placed_in}
@@ -37,22 +37,16 @@ zeros-append n m = replicate-append-replicate {A = ℕ} n m 0
 pub drop-zeros : (n m : ℕ) → drop n (zeros (n + m)) ≡ zeros m
 drop-zeros n m = ap (drop n) (sym (zeros-append n m)) ∙ drop_at (zeros n) (zeros m) n (zeros_long n)
 
--- what holds of each
-all_hold : (n : ℕ) (f : ℕ → Bool) → ((i : ℕ) → i < n → f i ≡ true) → all_to n f ≡ true
-unfolding all_to
-all_hold zero f h = refl
-all_hold (suc n) f h = rw (all_hold n f (λ i l. h i (omega arith)), h n (omega arith))
-
 pub zeros_zero : (n : ℕ) → all_zero (zeros n) ≡ true
-zeros_zero n =
-    all_hold (length (zeros n)) _ (λ i l. eq-eqb (get_or (zeros n) i 0) 0 (get_or-replicate {A = ℕ} n i 0 0 (omega (arith, zeros_long n))))
+zeros_zero zero = refl
+zeros_zero (suc n) = zeros_zero n
 
 -- ---- lists one behind the other
 
 pub joined-append : {A : Type 0} (ls ks : List (List A)) → joined (ls ++ ks) ≡ joined ls ++ joined ks
 unfolding joined
 joined-append [] ks = refl
-joined-append (l ∷ ls) ks = ap (λ r. l ++ r) (joined-append ls ks) ∙ sym (append_assoc l (joined ls) (joined ks))
+joined-append (l ∷ ls) ks = grind (arith, common_steps, joined-append ls ks)
 
 pub joined_last : {A : Type 0} (ls : List (List A)) (l : List A) → joined (ls ++ (l ∷ [])) ≡ joined ls ++ l
 unfolding joined
@@ -67,16 +61,13 @@ EachLong n (l ∷ ls) = (length l ≡ n) × EachLong n ls
 pub joined_long : {A : Type 0} (n : ℕ) (ls : List (List A)) → EachLong n ls → length (joined ls) ≡ length ls * n
 unfolding joined
 joined_long n [] h = omega arith
-joined_long n (l ∷ ls) h = omega (arith, length-append l (joined ls), joined_long n ls h.1, h.0)
+joined_long n (l ∷ ls) h = grind (arith, common_steps, joined_long n ls)
 
 -- the parts that they are joined of
 pub part_is : (n : ℕ) (ls : List (List ℕ)) (rest : List ℕ) → EachLong n ls → (i : ℕ) → i < length ls → part_of n (joined ls ++ rest) i ≡ get_or ls i []
 unfolding joined
 part_is n [] rest h i g = absurd (omega arith)
-part_is n (l ∷ ls) rest h zero g =
-    let start : zero * n ≡ 0 = omega arith in
-    ap (λ (k : ℕ). take n (drop k ((l ++ joined ls) ++ rest))) start
-    ∙ ap (take n) (append_assoc l (joined ls) rest) ∙ take_at l (joined ls ++ rest) n h.0
+part_is n (l ∷ ls) rest h zero g = grind (arith, common_steps)
 part_is n (l ∷ ls) rest h (suc i) g =
     let long = h.0 in
     let start : suc i * n ≡ length l + i * n = omega arith in

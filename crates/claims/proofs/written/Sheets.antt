@@ -1,12 +1,12 @@
 -- The sheets of accepted calls, call by call, and the blocks that they make. Assumes nothing.
-use mathlib.Core.Path.{◌≡◌, refl, sym, ap, ◌∙◌}
-use mathlib.Core.Bool.{Bool, true, false, cond}
+use mathlib.Core.Path.{◌≡◌, refl, ◌∙◌}
+use mathlib.Core.Bool.{cond}
 use mathlib.Core.List.{List, [], ◌∷◌, ◌++◌, append_assoc, append-nil}
 use Prim.Native.Nat.{ℕ, suc, ◌+◌}
 use native.Mathlib.Omega.{arith}
 use lib.Dec.{eqb}
 use lib.ListN.{length}
-use Rattle.layout.specs.Frame.{block_of}
+use Rattle.std.proofs.lemmas.Bool.Decides.{nat_tests}
 use Rattle.pages.specs.Calls.{Call, set_up, post, end}
 use Rattle.claims.specs.Written.{Sheet, sheet, of_posts, sheets, framed_from, posts_taken}
 
@@ -37,42 +37,26 @@ waiting_after waiting (call ∷ calls) = waiting_after (waiting_by waiting call)
 pub sheets_first : (waiting : List (List ℕ)) (call : Call) (calls : List Call) → sheets waiting (call ∷ calls) ≡ sheets_by waiting call ++ sheets (waiting_by waiting call) calls
 unfolding sheets
 sheets_first waiting (set_up kind count body) calls = refl
-sheets_first waiting (post s) calls = go (eqb (length waiting) 9)
-  where
-    go : (t : Bool) → cond t (of_posts (waiting ++ (s ∷ [])) ∷ sheets [] calls) (sheets (waiting ++ (s ∷ [])) calls)
-        ≡ cond t (of_posts (waiting ++ (s ∷ [])) ∷ []) [] ++ sheets (cond t [] (waiting ++ (s ∷ []))) calls
-    go true = refl
-    go false = refl
-sheets_first waiting end calls = go (eqb (length waiting) 0)
-  where
-    go : (t : Bool) → cond t (sheets [] calls) (of_posts waiting ∷ sheets [] calls) ≡ cond t [] (of_posts waiting ∷ []) ++ sheets [] calls
-    go true = refl
-    go false = refl
+sheets_first waiting (post s) calls = grind (arith, nat_tests)
+sheets_first waiting end calls = grind (arith, nat_tests)
 
 -- the last call's sheets come last
 pub sheets_last : (waiting : List (List ℕ)) (calls : List Call) (call : Call) → sheets waiting (calls ++ (call ∷ [])) ≡ sheets waiting calls ++ sheets_by (waiting_after waiting calls) call
 unfolding sheets
 sheets_last waiting [] call = sheets_first waiting call [] ∙ append-nil (sheets_by waiting call)
-sheets_last waiting (c ∷ calls) call =
-    sheets_first waiting c (calls ++ (call ∷ []))
-    ∙ ap (λ (l : List Sheet). sheets_by waiting c ++ l) (sheets_last (waiting_by waiting c) calls call)
-    ∙ sym (append_assoc (sheets_by waiting c) (sheets (waiting_by waiting c) calls) (sheets_by (waiting_after (waiting_by waiting c) calls) call))
-    ∙ ap (λ (l : List Sheet). l ++ sheets_by (waiting_after (waiting_by waiting c) calls) call) (sym (sheets_first waiting c calls))
+sheets_last waiting (c ∷ calls) call = simp (sheets_first, sheets_last (waiting_by waiting c) calls call, append_assoc)
 
 -- a block for each sheet
 pub framed_long : (number : ℕ) (xs : List Sheet) → length (framed_from number xs) ≡ length xs
 unfolding framed_from
 framed_long number [] = refl
-framed_long number (x ∷ xs) = ap suc (framed_long (suc number) xs)
+framed_long number (x ∷ xs) = omega (arith, framed_long (suc number) xs)
 
 -- blocks of further sheets are numbered on
 pub framed_append : (number : ℕ) (xs ys : List Sheet) → framed_from number (xs ++ ys) ≡ framed_from number xs ++ framed_from (number + length xs) ys
 unfolding framed_from
-framed_append number [] ys = let e : number ≡ number + 0 = omega arith in ap (λ (n : ℕ). framed_from n ys) e
-framed_append number (x ∷ xs) ys =
-    let e : suc number + length xs ≡ number + suc (length xs) = omega arith in
-    ap (λ (l : List (List ℕ)). block_of x.kind x.count number x.body ∷ l)
-    (framed_append (suc number) xs ys ∙ ap (λ (n : ℕ). framed_from (suc number) xs ++ framed_from n ys) e)
+framed_append number [] ys = grind arith
+framed_append number (x ∷ xs) ys = grind (arith, framed_append (suc number) xs ys)
 
 -- the first call's post comes first
 pub taken_first : (call : Call) (calls : List Call) → posts_taken (call ∷ calls) ≡ post_by call ++ posts_taken calls

@@ -1,18 +1,15 @@
 -- What each accepted call makes of the page that shows blocks and waiting posts. Assumes nothing.
-use mathlib.Core.Path.{◌≡◌, refl, sym, ap, subst, ◌∙◌}
-use mathlib.Core.Bool.{Bool, true, false, cond}
+use mathlib.Core.Path.{◌≡◌, refl, sym, ap, ◌∙◌}
 use mathlib.Core.List.{List, [], ◌∷◌, ◌++◌}
 use Prim.Native.Nat.{ℕ, ◌+◌, ◌*◌, ◌≤◌}
 use native.Mathlib.Decide.{ℕ_discrete}
 use native.Mathlib.Omega.{arith}
 use borrow.Author.Tests.{eq-eqb, ne_eqb}
-use lib.Dec.{eqb}
 use lib.ListN.{length, length-append}
 use Rattle.layout.specs.Frame.{body_of, block_of}
 use Rattle.layout.specs.declared.holds.SetupPart.{SetupPart}
 use Rattle.layout.specs.declared.outline.Outline.{Outline}
 use Rattle.layout.proofs.frame.Made.{made_long}
-use Rattle.encoding.specs.Bytes.{placed}
 use Rattle.pages.specs.Page as page
 use Rattle.pages.specs.Page.{Page, page_of, draft_of, with_part, finished, posts_block, with_post, posted}
 use Rattle.pages.specs.Tally as tally
@@ -60,12 +57,10 @@ module _ (lent : List ℕ) (posts blocks waiting : List (List ℕ)) (p : Page) (
       let y : List ℕ = posts_block count p.draft.tally.blocks block in
       let each = each_long o waiting told.formed in
       let body : body_of block ≡ posts_body waiting = ap body_of e ∙ drafted_body waiting (omega (arith, joined_long 48 waiting each)) in
-      let made : x ≡ y =
-      ap (λ (k : ℕ). block_of 3 k n (posts_body waiting)) (sym is) ∙ ap (λ (k : ℕ). block_of 3 count k (posts_body waiting)) (sym number)
-      ∙ ap (λ (s : List ℕ). block_of 3 count p.draft.tally.blocks s) (sym body) in
+      let made : y ≡ x = rw (is, number, body) in
       let next = filled_next lent blocks p.bytes p.filled filled x (made_long 3 (length waiting) n (posts_body waiting) (body_long n waiting each few)) b.room in
       record {
-        filled = subst (λ (z : List ℕ). Filled lent (blocks ++ (x ∷ [])) (placed p.bytes p.filled z) (p.filled + 512)) made next;
+        filled = rw made next;
         number = omega (arith, number, length-append blocks (x ∷ []));
         count = refl;
         few = omega arith;
@@ -99,9 +94,9 @@ module _ (lent : List ℕ) (posts blocks waiting : List (List ℕ)) (p : Page) (
   behind : with_post p.draft s ≡ drafted more
   behind =
       let long = joined_long 48 waiting (each_long o waiting h.told.formed) in
-      let at : 8 + p.draft.tally.waiting * 48 ≡ 8 + length (joined waiting) = omega (arith, h.count) in
       let fits : length (joined waiting) + length s ≤ 504 = omega (arith, h.few, a.long) in
-      ap (λ (l : List ℕ). placed l (8 + p.draft.tally.waiting * 48) s) h.block ∙ ap (λ (n : ℕ). placed (drafted waiting) n s) at ∙ drafted_next waiting s fits
+      let at : p.draft.tally.waiting * 48 ≡ length (joined waiting) = omega (arith, h.count) in
+      rw (h.block, at) (drafted_next waiting s fits)
 
   told_more : Told (posts ++ (s ∷ [])) blocks more o
   told_more = told_post posts blocks waiting o s h.told a.formed
@@ -113,10 +108,7 @@ module _ (lent : List ℕ) (posts blocks waiting : List (List ℕ)) (p : Page) (
   pub shows_tenth : length waiting ≡ 9 → Shows lent (posts ++ (s ∷ [])) (blocks ++ (block_of_posts (length blocks) more ∷ [])) [] (posted p s)
   unfolding posted
   shows_tenth e =
-      let full : eqb p.draft.tally.waiting 9 ≡ true = eq-eqb p.draft.tally.waiting 9 (h.count ∙ e) in
-      let is : finished p 10 (with_post p.draft s) ≡ posted p s =
-      ap (λ (t : Bool). cond t (finished p 10 (with_post p.draft s)) (page_of p.bytes p.filled (draft_of (tally.posted p.draft.tally) (with_post p.draft s)))) (sym full) in
-      subst (λ (q : Page). Shows lent (posts ++ (s ∷ [])) (blocks ++ (block_of_posts (length blocks) more ∷ [])) [] q) is
+      rw (eq-eqb p.draft.tally.waiting 9 (h.count ∙ e))
       (shows_finished lent (posts ++ (s ∷ [])) blocks more p h.number h.filled begins told_more (omega (arith, more_long)) (omega (arith, more_long))
       10 (with_post p.draft s) (omega (arith, more_long)) behind)
 
@@ -124,14 +116,8 @@ module _ (lent : List ℕ) (posts blocks waiting : List (List ℕ)) (p : Page) (
   pub shows_waiting : (length waiting ≡ 9 → ⊥) → Shows lent (posts ++ (s ∷ [])) blocks more (posted p s)
   unfolding posted tally.posted
   shows_waiting d =
-      let t : Tally = p.draft.tally in
-      let short : false ≡ eqb t.waiting 9 = sym (ne_eqb t.waiting 9 (λ e. d (sym h.count ∙ e))) in
-      let v : Tally = tally_of t.outline (t.waiting + 1) t.blocks in
-      let now : Page = page_of p.bytes p.filled (draft_of v (with_post p.draft s)) in
-      let is : now ≡ posted p s =
-      ap (λ (x : Bool). cond x (finished p 10 (with_post p.draft s)) (page_of p.bytes p.filled (draft_of (cond x (tally.finished t) v) (with_post p.draft s)))) short in
-      let shown : Shows lent (posts ++ (s ∷ [])) blocks more now =
-      record {
+      rw (ne_eqb p.draft.tally.waiting 9 (λ e. d (sym h.count ∙ e)))
+      (record {
         filled = h.filled;
         number = h.number;
         count = omega (arith, h.count, more_long);
@@ -139,27 +125,19 @@ module _ (lent : List ℕ) (posts blocks waiting : List (List ℕ)) (p : Page) (
         block = behind;
         begun = λ l. begins;
         told = told_more;
-      } in
-      subst (λ (q : Page). Shows lent (posts ++ (s ∷ [])) blocks more q) is shown
+      })
 
 -- ---- an end
-
--- the page once the posts that wait are written
-abbrev last_page : Page → Page
-last_page p = finished p p.draft.tally.waiting p.draft.block
 
 -- with no post waiting it writes nothing
 pub shows_same : (lent : List ℕ) (posts blocks : List (List ℕ)) (p : Page) → Shows lent posts blocks [] p → Shows lent posts blocks [] (page.ended p)
 unfolding page.ended
-shows_same lent posts blocks p h =
-    let none : true ≡ eqb p.draft.tally.waiting 0 = sym (eq-eqb p.draft.tally.waiting 0 h.count) in
-    subst (λ (q : Page). Shows lent posts blocks [] q) (ap (λ (t : Bool). cond t p (last_page p)) none) h
+shows_same lent posts blocks p h = rw (eq-eqb p.draft.tally.waiting 0 h.count) h
 
 -- and else the posts that wait become a block
 pub shows_ended : (lent : List ℕ) (posts blocks waiting : List (List ℕ)) (p : Page) → Shows lent posts blocks waiting p → 1 ≤ length waiting
     → Shows lent posts (blocks ++ (block_of_posts (length blocks) waiting ∷ [])) [] (page.ended p)
 unfolding page.ended
 shows_ended lent posts blocks waiting p h one =
-    let some : false ≡ eqb p.draft.tally.waiting 0 = sym (ne_eqb p.draft.tally.waiting 0 (λ e. omega (arith, h.count))) in
-    subst (λ (q : Page). Shows lent posts (blocks ++ (block_of_posts (length blocks) waiting ∷ [])) [] q) (ap (λ (t : Bool). cond t p (last_page p)) some)
+    rw (ne_eqb p.draft.tally.waiting 0 (λ e. omega (arith, h.count)))
     (shows_finished lent posts blocks waiting p h.number h.filled (h.begun one) h.told one (omega (arith, h.few)) p.draft.tally.waiting p.draft.block h.count h.block)

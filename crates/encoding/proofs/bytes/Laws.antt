@@ -1,17 +1,20 @@
 -- Numbers in bytes, one law for every width. Assumes nothing.
-use mathlib.Core.Path.{◌≡◌, refl, sym, ap, ◌∙◌}
+use mathlib.Core.Path.{◌≡◌, refl, sym, ap, ap₂, ◌∙◌}
 use mathlib.Core.Bool.{true}
 use mathlib.Core.List.{List, [], ◌∷◌}
-use Prim.Native.Nat.{ℕ, zero, suc, ◌+◌, ◌-◌, ◌*◌, ◌^◌, ◌≤◌, ◌<◌, min}
+use Prim.Native.Nat.{ℕ, zero, suc, ◌+◌, ◌-◌, ◌*◌, ◌^◌, ◌≤◌, ◌<◌}
 use native.Mathlib.Decide.{dec_lt}
-use native.Mathlib.Nat.{zero-add, one-mul, suc-add, mul-zero, mul_assoc, pow-succ'}
+use native.Mathlib.Numerals.{add-one}
+use native.Mathlib.Nat.{zero-add, one-mul, suc-add, mul-zero, mul_comm, mul_assoc, pow-succ'}
+use Rattle.std.specs.Array.{IsFirstChunk}
+use Rattle.std.specs.Int.{byte_worth, sum_through}
 use native.Mathlib.Omega.{arith}
 use lib.Dec.{leb}
 use borrow.Author.Tests.{leb-true}
-use lib.ListN.{length, get_or, take, drop, length-take, length-drop, drop_of_length-le, get_or-eq_default}
-use lib.Seq.{drop-cons, drop-drop, take_all, length-take-le, ext_get_or, get_or-take}
-use Rattle.encoding.specs.Bytes.{le, part, within}
-use Rattle.encoding.proofs.Each.{and_true}
+use lib.ListN.{length, replicate, get_or, take, drop, length-drop, drop_of_length-le, get_or-eq_default}
+use lib.Seq.{drop-cons, take_all, length-take-le, ext_get_or, get_or-take}
+use Rattle.encoding.specs.Bytes.{le, first_bytes, all_zero, within}
+use Rattle.encoding.proofs.Each.{and_true, length_list, list_at}
 
 le_nil : (n : ℕ) → le n [] ≡ 0
 unfolding le
@@ -19,7 +22,7 @@ le_nil zero = refl
 le_nil (suc n) = refl
 
 -- past the end
-pub le_out : (n at : ℕ) (s : List ℕ) → length s ≤ at → le n (drop at s) ≡ 0
+le_out : (n at : ℕ) (s : List ℕ) → length s ≤ at → le n (drop at s) ≡ 0
 le_out n at s h = rw (drop_of_length-le s h) (le_nil n)
 
 -- n bytes hold a number below 256 ^ n
@@ -36,9 +39,6 @@ split zero n s = simp (zero-add, one-mul)
 split (suc m) n [] = simp (le_nil, mul-zero, zero-add)
 split (suc m) n (x ∷ s) = let ih = split m n s in rw (suc-add, pow-succ', mul_assoc) (omega arith)
 
-pub split_at : (m n at : ℕ) (s : List ℕ) → le (m + n) (drop at s) ≡ le m (drop at s) + 256 ^ m * le n (drop (at + m) s)
-split_at m n at s = rw (← drop-drop m at s) (split m n (drop at s))
-
 pub one : (at : ℕ) (s : List ℕ) → le 1 (drop at s) ≡ get_or s at 0
 unfolding le
 one at s = go (dec_lt at (length s))
@@ -47,31 +47,41 @@ one at s = go (dec_lt at (length s))
     go (yes h) = rw (drop-cons s at 0) (omega arith)
     go (no h) = le_out 1 at s (omega arith) ∙ sym (get_or-eq_default s 0 (omega arith))
 
-pub two : (at : ℕ) (s : List ℕ) → le 2 (drop at s) ≡ get_or s at 0 + 256 * get_or s (at + 1) 0
-two at s = omega (arith, one at s, one (at + 1) s, split_at 1 1 at s)
+le_more : (n : ℕ) (s : List ℕ) → le (suc (suc n)) s ≡ le (suc n) s + get_or s (suc n) 0 * 256 ^ suc n
+le_more n s = rw (← add-one (suc n), split (suc n) 1 s, one (suc n) s, mul_comm (256 ^ suc n)) refl
+
+-- n + 1 bytes, told one by one
+pub le_worths : (n : ℕ) (s : List ℕ) → le (suc n) s ≡ sum_through (λ i. byte_worth i (get_or s i 0)) n
+le_worths zero s = one 0 s
+le_worths (suc n) s = le_more n s ∙ ap (λ m. m + get_or s (suc n) 0 * 256 ^ suc n) (le_worths n s)
+
+through_same : (n : ℕ) (f g : ℕ → ℕ) → ((i : ℕ) → i ≤ n → f i ≡ g i) → sum_through f n ≡ sum_through g n
+through_same zero f g h = h 0 (omega arith)
+through_same (suc n) f g h = ap₂ (λ (x y : ℕ). x + y) (through_same n f g (λ i l. h i (omega arith))) (h (suc n) (omega arith))
+
+-- what `from_le_bytes` reads of them
+pub told : (n : ℕ) (s bs : List ℕ) → bs ≡ first_bytes (suc n) s → sum_through (λ i. byte_worth i (get_or bs i 0)) n ≡ le (suc n) s
+told n s bs e =
+    through_same n (λ i. byte_worth i (get_or bs i 0)) (λ i. byte_worth i (get_or s i 0))
+    (λ i l. ap (byte_worth i) (ap (λ (x : List ℕ). get_or x i 0) e ∙ list_at (suc n) (λ k. get_or s k 0) i 0 (omega arith)))
+    ∙ sym (le_worths n s)
+
+-- what `first_chunk` gives of them
+pub chunk_is : (s bs : List ℕ) (n : ℕ) → IsFirstChunk s bs n → bs ≡ first_bytes n s
+chunk_is s bs n h =
+    ext_get_or 0 bs (first_bytes n s) (omega (arith, ap length h.same, length-take-le n s h.enough, length_list n (λ i. get_or s i 0)))
+    (λ i l.
+    let below : i < n = omega (arith, ap length h.same, length-take-le n s h.enough) in
+    ap (λ (x : List ℕ). get_or x i 0) h.same ∙ get_or-take n s i 0 below ∙ sym (list_at n (λ k. get_or s k 0) i 0 below))
 
 -- what `&s[from..]` is
 pub tail_is : (from : ℕ) (s : List ℕ) → take (length s - from) (drop from s) ≡ drop from s
 tail_is from s = take_all (length s - from) (drop from s) (simp length-drop (omega arith))
 
--- what `&s[start..end]` is, where a part's places are cut to the bytes that are there
-cut_length : (from to n end start : ℕ) → end ≡ min to n → start ≡ min from end → min (to - from) (n - from) ≡ end - start
-cut_length from to n end start e f = omega arith
-
-module _ (from to end start : ℕ) (s : List ℕ) (e : end ≡ min to (length s)) (f : start ≡ min from end) where
-  long : length (take (end - start) (drop start s)) ≡ end - start
-  long = length-take-le (end - start) (drop start s) (simp length-drop (omega arith))
-
-  pub cut_is : take (end - start) (drop start s) ≡ part from to s
-  cut_is =
-      ext_get_or 0 (take (end - start) (drop start s)) (part from to s)
-      (long ∙ sym (simp (length-take, length-drop) (cut_length from to (length s) end start e f)))
-      (λ i h.
-      let g : i < end - start = rw long at h in
-      let same : start ≡ from = omega arith in
-      get_or-take (end - start) (drop start s) i 0 g
-      ∙ ap (λ (n : ℕ). get_or (drop n s) i 0) same
-      ∙ sym (get_or-take (to - from) (drop from s) i 0 (omega arith)))
+-- zeros are zero
+pub zeros_zero : (n : ℕ) → all_zero (replicate n 0) ≡ true
+zeros_zero zero = refl
+zeros_zero (suc n) = zeros_zero n
 
 pub within_true : (low high n : ℕ) → within low high n ≡ true → (low ≤ n) × (n ≤ high)
 within_true low high n e = let h = and_true (leb low n) (leb n high) e in (leb-true low n h.0, leb-true n high h.1)

@@ -1,12 +1,12 @@
 -- Bytes put at a place of a buffer. Assumes nothing.
-use mathlib.Core.Path.{◌≡◌, sym, ap, ◌∙◌}
+use mathlib.Core.Path.{◌≡◌, sym, ap, ap₂, ◌∙◌}
 use mathlib.Core.List.{List, ◌++◌, append_assoc}
-use Prim.Native.Nat.{ℕ, ◌+◌, ◌≤◌, ◌<◌}
-use native.Mathlib.Numerals.{add-one}
+use Prim.Native.Nat.{ℕ, ◌+◌, ◌-◌, ◌≤◌, ◌<◌}
 use native.Mathlib.Omega.{arith}
 use borrow.Author.Tests.{le-leb, lt-leb}
-use lib.ListN.{length, take, drop, get_or, set, length-append, length-drop}
-use lib.Seq.{length-take-le, take-length, paste, paste-suc}
+use borrow.Rule.Slice.PartMut.{put_mid}
+use lib.ListN.{length, take, drop, length-append, length-drop}
+use lib.Seq.{length-take-le, drop-drop}
 use Rattle.encoding.specs.Bytes.{written, placed}
 
 -- where the bytes fit, and where they don't
@@ -27,11 +27,8 @@ placed_long l at s h =
     ap length (placed_in l at s h)
     ∙ omega (arith, length-append (take at l) (s ++ drop (at + length s) l), length-append s (drop (at + length s) l), length-take-le at l (omega arith), length-drop (at + length s) l)
 
--- a round of the loop of `put`, and its end
-module _ (l : List ℕ) (at : ℕ) (a m : List ℕ) (i : ℕ) (e : m ≡ paste l at a i) where
-  pub paste_more : at + i < length l → i < length a → set m (at + i) (get_or a i 0) ≡ paste l at a (i + 1)
-  paste_more h k = rw (e, add-one i) (paste-suc l at a i 0 h k)
-
-  pub paste_all : i ≡ length a → at + length a ≤ length l → m ≡ placed l at a
-  unfolding written
-  paste_all k h = e ∙ ap (paste l at a) k ∙ ap (λ (x : List ℕ). take at l ++ x ++ drop (at + length a) l) (take-length a) ∙ sym (placed_fits l at a h)
+-- what a copy into the part `at..at + s.len()` leaves, where s fits
+pub copied_in : (l : List ℕ) (at : ℕ) (s ys : List ℕ) → ys ≡ s → length s ≤ length l → at ≤ length l - length s → put_mid at (at + length s - at) l ys ≡ placed l at s
+copied_in l at s ys e h k =
+    let long : at + length s - at ≡ length s = omega arith in
+    ap₂ (λ (n : ℕ) (x : List ℕ). put_mid at n l x) long e ∙ ap (λ (x : List ℕ). take at l ++ (s ++ x)) (drop-drop (length s) at l) ∙ sym (placed_in l at s (omega arith))

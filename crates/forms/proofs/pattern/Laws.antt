@@ -12,14 +12,10 @@ use lib.Ieee.Exact.{HasValue, odd_sign}
 use lib.Ieee.Fits.{down_pos}
 use lib.Ieee.Positive.{first_pos}
 use lib.Ieee.Bits.{nan_bits_above}
+use Rattle.std.proofs.lemmas.Bool.Decides.{nat_tests}
 use borrow.Author.Tests.{eq-eqb, ne_eqb, le-ltb}
 use Rattle.forms.specs.Binary64.{whole, finite, value_of}
-use Rattle.forms.specs.Pattern.{◌to◌, in_range, reading_of, answer}
-use Rattle.amounts.specs.declared.decline.Decline.{Decline}
-use Rattle.forms.specs.declared.pattern.Range.{Range}
-use Rattle.forms.specs.declared.pattern.FloatRead.{FloatRead}
-use Rattle.forms.specs.declared.pattern.FloatRead.TheVariants.{Value, Declined}
-use Rattle.amounts.proofs.decline.Laws.{one_taken, one_declined}
+use Rattle.forms.specs.Pattern.{◌to◌, in_range}
 
 digits_finite : (d : ℕ) (s : Bool) (q k l : ℕ) → finite (odd d s q k l) ≡ true
 unfolding odd
@@ -27,9 +23,7 @@ digits_finite d s zero k l = refl
 digits_finite d s (suc q) k l = refl
 
 pick : (a b s : Bool) (v : Float) → finite v ≡ true → finite (cond a (cond b (inf s) nan) v) ≡ not a
-pick true true s v h = refl
-pick true false s v h = refl
-pick false b s v h = h
+pick a b s v h = grind arith
 
 -- by the exponent's field
 by_field : (s : Bool) (x t : ℕ) → finite (of_fields binary64 s x t) ≡ not (eqb x 2047)
@@ -51,6 +45,8 @@ module _ (b : ℕ) where
   pub no_nan : b % 0x8000_0000_0000_0000 < 0x7ff0_0000_0000_0000 → T (not (nan_bits binary64 b))
   no_nan h =
       subst (λ (t : Bool). T (not t)) (sym (nan_bits_above binary64 b ∙ le-ltb (2047 * 2 ^ 52) (b % 2 ^ 63) (omega arith))) tt
+
+pub ruleset finiteness = (finite_below, not_finite, no_nan)
 
 -- ---- which patterns are zero: those of which nothing but the sign is set
 
@@ -75,23 +71,18 @@ over_zero nan a l v A = elim v [ ]
 over_zero (inf _) a l v A = elim v [ ]
 
 not_zero : (x : Float) (s : Bool) (a l : ℕ) → HasValue x s a (2 ^ l) → 0 < a → in_range (0 to 0) x ≡ false
-not_zero (fin t m e) true a l v A = rw (below_zero (fin t m e) a l v A)
-not_zero (fin t m e) false a l v A = rw (over_zero (fin t m e) a l v A) (none (le (whole 0) (fin t m e)))
-  where
-    none : (b : Bool) → (b && false) ≡ false
-    none true = refl
-    none false = refl
-not_zero nan s a l v A = elim v [ ]
-not_zero (inf _) s a l v A = elim v [ ]
+unfolding in_range
+not_zero x true a l v A = grind (arith, below_zero x a l v A)
+not_zero x false a l v A = grind (arith, over_zero x a l v A)
 
 digits_zero : (d : ℕ) (s : Bool) (q k l : ℕ) → in_range (0 to 0) (odd d s q k l) ≡ eqb q 0
-unfolding odd le round
+unfolding odd le round in_range
 digits_zero d true zero k l = refl
 digits_zero d false zero k l = refl
 digits_zero d s (suc q) k l = not_zero (odd d s (suc q) k l) s (suc q * 2 ^ k) l (odd_sign d s (suc q) k l) (mul-pos (zero-lt-suc q) (pow_pos k)) ∙ sym (eqb-suc-zero q)
 
 fields_zero : (s : Bool) (x t : ℕ) → in_range (0 to 0) (of_fields binary64 s x t) ≡ eqb x 0 && eqb t 0
-unfolding of_fields
+unfolding of_fields in_range
 fields_zero s zero t = digits_zero 53 s t 0 1074
 fields_zero s (suc x) t = go (eqb (suc x) 2047) (eqb t 0) ∙ ap (λ (a : Bool). a && eqb t 0) (sym (eqb-suc-zero x))
   where
@@ -107,18 +98,4 @@ zero_pattern b =
     ∙ sym (fields_zero (leb (2 ^ 63) b) (b % 2 ^ 63 / 2 ^ 52) (b % 2 ^ 52))
   where
     same : (x t n : ℕ) → (x ≡ 0 → t ≡ 0 → n ≡ 0) → (n ≡ 0 → x ≡ 0) → (n ≡ 0 → t ≡ 0) → eqb n 0 ≡ eqb x 0 && eqb t 0
-    same zero zero n f g h = eq-eqb n 0 (f refl refl)
-    same zero (suc t) n f g h = ne_eqb n 0 (λ (e : n ≡ 0). let z = h e in omega arith) ∙ sym (eqb-suc-zero t)
-    same (suc x) t n f g h = ne_eqb n 0 (λ (e : n ≡ 0). let z = g e in omega arith) ∙ ap (λ (a : Bool). a && eqb t 0) (sym (eqb-suc-zero x))
-
--- ---- what a reading tells of the float
-
-module _ (range : Range) (x : Float) where
-  -- the float is in the range and is the value read
-  pub read : (r : FloatRead) (y : Float) → answer r ≡ reading_of range x → r ≡ Value y → (in_range range x ≡ true) × (y ≡ x)
-  unfolding reading_of
-  read r y e v = one_taken (in_range range x) 7 x y (sym (ap answer v) ∙ e)
-
-  pub refused : (r : FloatRead) (d : Decline) → answer r ≡ reading_of range x → r ≡ Declined d → in_range range x ≡ false
-  unfolding reading_of
-  refused r d e v = (one_declined (in_range range x) 7 x d.number (sym (ap answer v) ∙ e)).0
+    same x t n f g h = grind (arith, nat_tests)

@@ -1,57 +1,72 @@
 -- The block that its frame makes of a body. Assumes nothing.
-use mathlib.Core.Path.{◌≡◌, refl, ap, ap₂, ◌∙◌}
-use mathlib.Core.List.{List, [], ◌∷◌, ◌++◌, append-nil}
-use Prim.Native.Nat.{ℕ, ◌+◌, ◌/◌, ◌%◌, ◌<◌}
+use mathlib.Core.Path.{◌≡◌, ap, ap₂, ◌∙◌}
+use mathlib.Core.List.{List, [], ◌∷◌, ◌++◌, append-nil, append_assoc}
+use Prim.Native.Nat.{ℕ}
 use native.Mathlib.Omega.{arith}
-use lib.ListN.{length, take, drop, drop_of_length-le}
-use lib.Seq.{take-append-add}
-use Rattle.encoding.specs.Bytes.{little_endian, placed}
+use borrow.Rule.Slice.PartMut.{put_mid}
+use lib.Chars.{codes}
+use lib.ListN.{length, get_or, take, drop, set, length-append, length-drop, drop_of_length-le}
+use lib.Seq.{drop-cons, take-append-add, length-take-le}
+use mir.Syntax.{w16}
+use Rattle.std.specs.Int.{to_le_bytes}
+use Rattle.std.proofs.lemmas.Slice.{take-put_mid}
+use Rattle.encoding.specs.Bytes.{little_endian}
+use Rattle.layout.specs.declared.frame.CheckSums.{CheckSums}
 use Rattle.layout.specs.Frame.{body_of, plain_sum, weighted_sum, sums_of, head_of, summed, block_of}
-use Rattle.encoding.proofs.bytes.Placed.{placed_in, placed_long}
-use Rattle.layout.proofs.frame.Made.{plain_small, weighted_small}
 
-two_bytes : (n : ℕ) → n < 65536 → n / 256 ≡ n / 256 % 256
-two_bytes n h = omega arith
+module _ (block : List ℕ) (long : length block ≡ 512) where
+  four_more : drop 4 block ≡ get_or block 4 0 ∷ get_or block 5 0 ∷ get_or block 6 0 ∷ get_or block 7 0 ∷ drop 8 block
+  four_more = rw (drop-cons block 4 0 (omega arith), drop-cons block 5 0 (omega arith), drop-cons block 6 0 (omega arith), drop-cons block 7 0 (omega arith))
 
-module _ (block : List ℕ) (long : length block ≡ 512) (head : List ℕ) (eight : length head ≡ 8) where
-  headed : placed block 0 head ≡ head ++ drop 8 block
-  headed = placed_in block 0 head (omega (arith, long, eight)) ∙ ap (λ (n : ℕ). head ++ drop n block) {x = 0 + length head} {y = 8} (omega (arith, eight))
+  module _ (kind count number : ℕ) where
+    -- the tag, the kind, the count and the number written one after the other
+    headed : put_mid 6 2 (set (set (codes "PRTR" ++ drop 4 block) 4 kind) 5 count) (to_le_bytes w16 number) ≡ head_of kind count number ++ drop 8 block
+    unfolding little_endian
+    headed = rw four_more
 
-  first_part : take 508 (placed block 0 head) ≡ head ++ body_of block
-  first_part = ap (take 508) headed ∙ ap (λ (n : ℕ). take n (head ++ drop 8 block)) {x = 508} {y = length head + 500} (omega (arith, eight)) ∙ take-append-add head (drop 8 block) 500
+    front_is : take 508 (head_of kind count number ++ drop 8 block) ≡ head_of kind count number ++ body_of block
+    unfolding little_endian
+    front_is = take-append-add (head_of kind count number) (drop 8 block) 500
 
-  module _ (tail : List ℕ) (four : length tail ≡ 4) where
-    tailed : placed (placed block 0 head) 508 tail ≡ (head ++ body_of block) ++ tail
-    tailed =
-        let m = placed block 0 head in
-        let same = placed_long block 0 head (omega (arith, long, eight)) in
-        placed_in m 508 tail (omega (arith, same, long, four))
-        ∙ ap₂ (λ (x y : List ℕ). x ++ (tail ++ y)) first_part (drop_of_length-le m {i = 508 + length tail} (omega (arith, same, long, four)))
-        ∙ ap (λ (x : List ℕ). (head ++ body_of block) ++ x) (append-nil tail)
+-- two bytes at 508, and then two at 510
+module _ (m p : List ℕ) (long : length m ≡ 512) (two_p : length p ≡ 2) where
+  pub middle_long : length (put_mid 508 2 m p) ≡ 512
+  middle_long =
+      length-append (take 508 m) (p ++ drop 2 (drop 508 m))
+      ∙ omega (arith, length-append p (drop 2 (drop 508 m)), length-take-le 508 m (omega arith), length-drop 2 (drop 508 m), length-drop 508 m)
 
-sums_are : (p q w z a b : ℕ) → p ≡ a % 256 → q ≡ a / 256 → w ≡ b % 256 → z ≡ b / 256 → a < 65536
-    → b < 65536 → p ∷ q ∷ w ∷ z ∷ [] ≡ little_endian 2 a ++ little_endian 2 b
-unfolding little_endian
-sums_are p q w z a b p= q= w= z= h k =
-    ap₂ (λ (x y : ℕ). x ∷ y ∷ w ∷ z ∷ []) p= (q= ∙ two_bytes a h) ∙ ap₂ (λ (x y : ℕ). a % 256 ∷ a / 256 % 256 ∷ x ∷ y ∷ []) w= (z= ∙ two_bytes b k)
+  tailed : (w : List ℕ) → length w ≡ 2 → put_mid 510 2 (put_mid 508 2 m p) w ≡ take 508 m ++ (p ++ w)
+  tailed w two_w =
+      let k : List ℕ = put_mid 508 2 m p in
+      let none : drop 2 (drop 510 k) ≡ [] = drop_of_length-le (drop 510 k) {i = 2} (omega (arith, length-drop 510 k, middle_long)) in
+      ap₂ (λ (x y : List ℕ). x ++ (w ++ y)) (take-put_mid 508 2 m p 510 (omega (arith, two_p)) (omega (arith, long))) none
+      ∙ ap (λ (x : List ℕ). (take 508 m ++ p) ++ x) (append-nil w) ∙ append_assoc (take 508 m) p w
 
--- the block that the frame's bytes make, by what the code has of each byte
-pub framed_is : (block : List ℕ) (kind count number a b p q w z : ℕ) (m : List ℕ) → length block ≡ 512 → number < 65536
-    → m ≡ placed block 0 (80 ∷ 82 ∷ 84 ∷ 82 ∷ kind ∷ count ∷ a ∷ b ∷ [])
-    → a ≡ number % 256 → b ≡ number / 256
-    → p ≡ (sums_of m).plain % 256 → q ≡ (sums_of m).plain / 256 → w ≡ (sums_of m).weighted % 256 → z ≡ (sums_of m).weighted / 256
-    → placed m 508 (p ∷ q ∷ w ∷ z ∷ []) ≡ block_of kind count number (body_of block)
-unfolding block_of summed little_endian
-framed_is block kind count number a b p q w z m long small is a= b= p= q= w= z= =
-    let head : List ℕ = 80 ∷ 82 ∷ 84 ∷ 82 ∷ kind ∷ count ∷ a ∷ b ∷ [] in
-    let front : List ℕ = head_of kind count number ++ body_of block in
-    let named : head ≡ head_of kind count number = ap₂ (λ (x y : ℕ). 80 ∷ 82 ∷ 84 ∷ 82 ∷ kind ∷ count ∷ x ∷ y ∷ []) a= (b= ∙ two_bytes number small) in
-    let first : take 508 m ≡ front = ap (take 508) is ∙ first_part block long head refl ∙ ap (λ (x : List ℕ). x ++ body_of block) named in
-    let plain : (sums_of m).plain ≡ plain_sum front = ap plain_sum first in
-    let weighted : (sums_of m).weighted ≡ weighted_sum front = ap weighted_sum first in
-    let lows : p ∷ q ∷ w ∷ z ∷ [] ≡ little_endian 2 (plain_sum front) ++ little_endian 2 (weighted_sum front) = sums_are p q w z (plain_sum front) (weighted_sum front)
-    (p= ∙ ap (λ (x : ℕ). x % 256) plain) (q= ∙ ap (λ (x : ℕ). x / 256) plain) (w= ∙ ap (λ (x : ℕ). x % 256) weighted) (z= ∙ ap (λ (x : ℕ). x / 256) weighted)
-    (plain_small front) (weighted_small front) in
-    ap (λ (x : List ℕ). placed x 508 (p ∷ q ∷ w ∷ z ∷ [])) is
-    ∙ tailed block long head refl (p ∷ q ∷ w ∷ z ∷ []) refl
-    ∙ ap₂ (λ (x y : List ℕ). (x ++ body_of block) ++ y) named lows
+-- the block that the frame's bytes make, by what the code has of each part
+module _ (block tag own : List ℕ) (kind count number : ℕ) (long : length block ≡ 512) (tag= : tag ≡ codes "PRTR") (own= : own ≡ to_le_bytes w16 number) where
+  abbrev begun : List ℕ
+  begun = put_mid 6 2 (set (set (tag ++ drop 4 block) 4 kind) 5 count) own
+
+  abbrev front : List ℕ
+  front = head_of kind count number ++ body_of block
+
+  begun_is : begun ≡ head_of kind count number ++ drop 8 block
+  begun_is = ap₂ (λ (t n : List ℕ). put_mid 6 2 (set (set (t ++ drop 4 block) 4 kind) 5 count) n) tag= own= ∙ headed block long kind count number
+
+  pub begun_long : length begun ≡ 512
+  unfolding little_endian
+  begun_long = ap length begun_is ∙ omega (arith, length-append (head_of kind count number) (drop 8 block), length-drop 8 block)
+
+  summed_part : take 508 begun ≡ front
+  summed_part = ap (take 508) begun_is ∙ front_is block long kind count number
+
+  pub framed_is : (sums : CheckSums) (p w : List ℕ) → sums ≡ sums_of begun → p ≡ to_le_bytes w16 sums.plain → w ≡ to_le_bytes w16 sums.weighted
+      → put_mid 510 2 (put_mid 508 2 begun p) w ≡ block_of kind count number (body_of block)
+  unfolding block_of summed little_endian
+  framed_is sums p w sums= p= w= =
+      let same : sums ≡ record { plain = plain_sum front; weighted = weighted_sum front } = sums= ∙ ap (λ (l : List ℕ). record { plain = plain_sum l; weighted = weighted_sum l }) summed_part in
+      let plain : p ≡ little_endian 2 (plain_sum front) = p= ∙ ap (λ (x : CheckSums). to_le_bytes w16 x.plain) same in
+      let weighted : w ≡ little_endian 2 (weighted_sum front) = w= ∙ ap (λ (x : CheckSums). to_le_bytes w16 x.weighted) same in
+      tailed begun p begun_long (ap length plain) w (ap length weighted)
+      ∙ ap (λ (l : List ℕ). l ++ (p ++ w)) summed_part
+      ∙ ap₂ (λ (x y : List ℕ). front ++ (x ++ y)) plain weighted

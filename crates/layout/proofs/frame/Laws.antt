@@ -6,20 +6,21 @@ use native.Mathlib.Omega.{arith}
 use borrow.Author.Tests.{eqb-true}
 use lib.ListN.{length, get_or, drop}
 use lib.Seq.{get_or-drop}
-use Rattle.amounts.specs.Decline.{taken, declined, checked}
+use Rattle.std.specs.Prelude.{Ok}
+use Rattle.amounts.specs.Decline.{checked, on_taken}
 use Rattle.amounts.proofs.decline.Laws.{was_taken}
 use Rattle.encoding.specs.Bytes.{le}
 use Rattle.layout.specs.Frame.{block_kind, frame_checks, held_at}
 use Rattle.layout.specs.Holds.{holds_of}
 use Rattle.layout.specs.declared.holds.Holds.{Holds}
-use Rattle.layout.proofs.Checked.{passed}
+use Rattle.layout.proofs.Checked.{passed, guards}
 use Rattle.encoding.proofs.bytes.Laws.{le_small}
 
 pub record Framed (number : ℕ) (s : List ℕ) : Type 0 where
   pub long : length s ≡ 512
   pub own_number : le 2 (drop 6 s) ≡ number
 
-pub framed : {A : Type 0} (number : ℕ) (s : List ℕ) (x y : A) → checked (frame_checks number s) x ≡ taken y → Framed number s × (y ≡ x)
+pub framed : {A : Type 0} (number : ℕ) (s : List ℕ) (x y : A) → checked (frame_checks number s) x ≡ Ok y → Framed number s × (y ≡ x)
 framed number s x y e =
     let h = passed (frame_checks number s) x y e in
     let late = h.0.1.1.1.1 in (
@@ -37,16 +38,17 @@ number_small number s fits f = omega (arith, le_small 2 (drop 6 s) (λ i. rw get
 -- ---- what a block holds
 
 module _ (number : ℕ) (s : List ℕ) where
-  pub not_held : (n : ℕ) → checked (frame_checks number s) s ≡ declined n → held_at number s ≡ declined n
-  unfolding held_at
-  not_held n e = rw e
-
-  pub is_held : checked (frame_checks number s) s ≡ taken s → held_at number s ≡ holds_of (block_kind s)
+  pub is_held : checked (frame_checks number s) s ≡ Ok s → held_at number s ≡ holds_of (block_kind s)
   unfolding held_at
   is_held e = rw e
 
+  -- a table of checks goes before what the kind tells
+  pub held_is : held_at number s ≡ on_taken (checked (frame_checks number s) (tt {0})) (λ u. holds_of (block_kind s))
+  unfolding held_at
+  held_is = guards (frame_checks number s) s (tt {0}) (λ s. holds_of (block_kind s))
+
   -- a frame that is read passes, and its kind tells what the block holds
-  pub held_framed : (h : Holds) → held_at number s ≡ taken h → Framed number s × (holds_of (block_kind s) ≡ taken h)
+  pub held_framed : (h : Holds) → held_at number s ≡ Ok h → Framed number s × (holds_of (block_kind s) ≡ Ok h)
   unfolding held_at
   held_framed h e =
       let a = was_taken (checked (frame_checks number s) s) (λ s. holds_of (block_kind s)) h e in

@@ -7,22 +7,23 @@ use native.Mathlib.Omega.{arith}
 use borrow.Author.Tests.{eq-eqb}
 use lib.ListN.{length, take, drop, length-append}
 use lib.Seq.{take_at, drop_at, drop-drop}
-use Rattle.amounts.specs.Decline.{taken, checked, is_taken}
+use Rattle.std.specs.Prelude.{Ok}
+use Rattle.amounts.specs.Decline.{checked, is_taken}
 use Rattle.encoding.specs.Bytes.{le, little_endian}
 use Rattle.layout.specs.Frame.{has_tag, block_kind, count_of, body_of, plain_sum, weighted_sum, sums_of, frame_checks, head_of, summed, block_of}
 use Rattle.layout.specs.Holds.{holds_of}
 use Rattle.layout.specs.declared.holds.Holds.{Holds}
 
 -- two bytes that store a number tell it again, whatever stands behind them
-pub two_told : (n : ℕ) (s : List ℕ) → n < 65536 → le 2 (little_endian 2 n ++ s) ≡ n
+two_told : (n : ℕ) (s : List ℕ) → n < 65536 → le 2 (little_endian 2 n ++ s) ≡ n
 unfolding le little_endian
 two_told n s h = omega arith
 
-pub plain_small : (s : List ℕ) → plain_sum s < 65536
+plain_small : (s : List ℕ) → plain_sum s < 65536
 unfolding plain_sum
 plain_small s = omega arith
 
-pub weighted_small : (s : List ℕ) → weighted_sum s < 65536
+weighted_small : (s : List ℕ) → weighted_sum s < 65536
 unfolding weighted_sum
 weighted_small s = omega arith
 
@@ -57,7 +58,7 @@ module _ (kind count number : ℕ) (body : List ℕ) where
   kind_made = refl
 
   -- it holds what its kind holds
-  pub held_made : (h : Holds) → holds_of kind ≡ taken h → holds_of (block_kind made) ≡ taken h
+  pub held_made : (h : Holds) → holds_of kind ≡ Ok h → holds_of (block_kind made) ≡ Ok h
   held_made h e = ap holds_of kind_made ∙ e
 
   pub count_made : count_of made ≡ count
@@ -94,7 +95,7 @@ module _ (kind count number : ℕ) (body : List ℕ) where
     weighted_made = weighted_told (head_of kind count number ++ body) before_long
 
     -- 1 to 3
-    pub made_passes : {A : Type 0} (a : A) → is_taken (holds_of kind) ≡ true → number < 65536 → checked (frame_checks number made) a ≡ taken a
+    pub made_passes : {A : Type 0} (a : A) → is_taken (holds_of kind) ≡ true → number < 65536 → checked (frame_checks number made) a ≡ Ok a
     unfolding checked
     made_passes a k n =
         rw (eq-eqb _ _ made_long, tag_made, eq-eqb _ _ plain_made, eq-eqb _ _ weighted_made, ap (λ (n : ℕ). is_taken (holds_of n)) kind_made ∙ k, eq-eqb _ _ (number_made n))

@@ -1,34 +1,55 @@
--- Sums in signed numbers that stay below half of their range, where a number is its bits. Assumes nothing.
-use mathlib.Core.Path.{◌≡◌, sym, ap, ap₂, subst, ◌∙◌}
+-- Sums of bytes in signed numbers that stay below half of their range, where a number is its bits. Assumes nothing.
+use mathlib.Core.Path.{◌≡◌, ap, ap₂, ◌∙◌}
 use mathlib.Core.List.{List}
-use Prim.Native.Nat.{ℕ, ◌+◌, ◌*◌, ◌^◌, ◌<◌, min}
+use Prim.Native.Nat.{ℕ, ◌+◌, ◌*◌, ◌%◌, ◌≤◌, ◌<◌, min}
+use native.Mathlib.Nat.{mul-le-mul}
 use native.Mathlib.Omega.{arith}
-use lib.IntN.{ℤ, pos, ◌+ℤ◌, ◌*ℤ◌}
+use lib.IntN.{ℤ, pos, nat_abs, ◌*ℤ◌}
 use lib.ListN.{length, get_or, take, length-take}
 use lib.Seq.{get_or-take}
-use mir.Syntax.{Width, w16, w32}
-use mir.Val.{hbits, to_z, of_z, SFits}
-use mir.ValLaws.{to_z_pos}
+use mir.Syntax.{w8, w32}
+use mir.Val.{Fits, to_z, of_z}
+use Rattle.std.proofs.lemmas.Int.{ints}
+use Rattle.std.proofs.lemmas.List.{take_min}
 use Rattle.encoding.specs.Each.{sum_to}
-use Rattle.encoding.proofs.Each.{sum_same}
+use Rattle.layout.specs.Frame.{plain_sum, weighted_sum, sums_of}
 
-pub small : (w : Width) (n : ℕ) (z : ℤ) → z ≡ pos n → n < 2 ^ hbits w → SFits w z
-small w n z e h = subst (SFits w) (sym e) (record { sfits = h })
+abbrev pub bytes : List ℕ → ℕ → ℕ
+bytes s i = get_or s i 0
 
-pub kept : (w : Width) (n : ℕ) (z : ℤ) → z ≡ pos n → n < 2 ^ hbits w → to_z w (of_z w z) ≡ pos n
-kept w n z e h = ap (λ (x : ℤ). to_z w (of_z w x)) e ∙ to_z_pos w n h
+abbrev pub weights : List ℕ → ℕ → ℕ
+weights s i = get_or s i 0 * (i + 1)
 
-pub added : (m n : ℕ) (x y : ℤ) → x ≡ pos m → y ≡ pos n → n < 2 ^ 31 → x +ℤ to_z w32 (of_z w32 y) ≡ pos (m + n)
-added m n x y d e g = ap₂ (λ (a b : ℤ). a +ℤ b) d (kept w32 n y e g)
+pub record Weighed (byte i : ℕ) (x y : ℤ) : Type 0 where
+  pub below : i < 508
+  pub small : byte ≤ 255
+  pub weight : byte * (i + 1) ≤ 130560
+  pub product : to_z w32 (of_z w32 x) *ℤ to_z w32 (of_z w32 y) ≡ pos (byte * (i + 1))
 
-pub weighed : (m n : ℕ) (x y : ℤ) → x ≡ pos m → y ≡ pos n → m < 2 ^ 31 → n < 2 ^ 15
-    → to_z w32 (of_z w32 x) *ℤ to_z w32 (of_z w32 (to_z w16 (of_z w16 y))) ≡ pos (m * n)
-weighed m n x y d e h g = ap₂ (λ (a b : ℤ). a *ℤ b) (kept w32 m x d h) (kept w32 n (to_z w16 (of_z w16 y)) (kept w16 n y e g) (omega arith))
+module _ (s : List ℕ) (n i : ℕ) where
+  -- a byte among the first 508, and its place
+  pub weighed : (x y : ℤ) → ((k : ℕ) → Fits w8 (get_or s k 0)) → n ≤ 508 → i < length (take n s)
+      → x ≡ pos (get_or (take n s) i 0) → y ≡ pos (i + 1) → Weighed (get_or (take n s) i 0) i x y
+  weighed x y fits few below x= y= =
+      let byte : ℕ = get_or (take n s) i 0 in
+      let near : i < n = omega (arith, length-take n s) in
+      let small : byte ≤ 255 = rw (get_or-take n s i 0 near) (omega (arith, (fits i).fits)) in
+      let place : i + 1 ≤ 512 = omega arith in
+      let a : to_z w32 (of_z w32 x) ≡ pos byte = omega (arith, ints) in
+      let b : to_z w32 (of_z w32 y) ≡ pos (i + 1) = omega (arith, ints) in
+      record {
+        below = omega arith;
+        small = small;
+        weight = mul-le-mul small place;
+        product = ap (λ (z : ℤ). z *ℤ to_z w32 (of_z w32 y)) a ∙ ap (λ (z : ℤ). pos byte *ℤ z) b;
+      }
 
--- what is added for the first bytes, of a byte and its place, is added for the bytes that are there
-pub first_terms : (term : ℕ → ℕ → ℕ) (k n : ℕ) (s : List ℕ) → n ≡ min (length s) k
-    → sum_to n (λ i. term (get_or s i 0) i) ≡ sum_to (length (take k s)) (λ i. term (get_or (take k s) i 0) i)
-first_terms term k n s e =
-    let long : n ≡ length (take k s) = simp length-take (omega arith) in
-    sum_same n (λ i. term (get_or s i 0) i) (λ i. term (get_or (take k s) i 0) i) (λ i h. ap (λ (x : ℕ). term x i) (sym (get_or-take k s i 0 (omega arith))))
-    ∙ ap (λ (m : ℕ). sum_to m (λ i. term (get_or (take k s) i 0) i)) long
+  -- the sums of all of them
+  pub summed_up : (x y : ℤ) → n ≡ min (length s) 508 → i ≡ length (take n s) → x ≡ pos (sum_to i (bytes (take n s))) → y ≡ pos (sum_to i (weights (take n s)))
+      → record { plain = nat_abs x % 65521; weighted = nat_abs y % 65521 } ≡ sums_of s
+  unfolding plain_sum weighted_sum
+  summed_up x y cut all x= y= =
+      let same : take n s ≡ take 508 s = ap (λ (m : ℕ). take m s) (omega arith) ∙ take_min 508 s in
+      ap₂ (λ (x y : ℤ). record { plain = nat_abs x % 65521; weighted = nat_abs y % 65521 }) x= y=
+      ∙ ap (λ (m : ℕ). record { plain = sum_to m (bytes (take n s)) % 65521; weighted = sum_to m (weights (take n s)) % 65521 }) all
+      ∙ ap (λ (t : List ℕ). record { plain = plain_sum t; weighted = weighted_sum t }) same

@@ -5,7 +5,8 @@ use mathlib.Core.List.{List}
 use Prim.Native.Nat.{ℕ, ◌≤◌}
 use borrow.Author.Tests.{eqb-true, not-true}
 use lib.ListN.{length}
-use Rattle.amounts.specs.Decline.{taken, checked}
+use Rattle.std.specs.Prelude.{Ok}
+use Rattle.amounts.specs.Decline.{checked}
 use Rattle.layout.specs.Outline.{may_post}
 use Rattle.layout.specs.Posts.{own_checks}
 use Rattle.layout.specs.declared.outline.Outline.{Outline}
@@ -19,7 +20,7 @@ pub record Owned (o : Outline) (closed : Bool) (count : ℕ) (body : List ℕ) :
   pub some_posts : 1 ≤ count
   pub few_posts : count ≤ 10
 
-pub owned : {A : Type 0} (o : Outline) (closed : Bool) (count : ℕ) (body : List ℕ) (x y : A) → checked (own_checks o closed count body) x ≡ taken y → Owned o closed count body × (y ≡ x)
+pub owned : {A : Type 0} (o : Outline) (closed : Bool) (count : ℕ) (body : List ℕ) (x y : A) → checked (own_checks o closed count body) x ≡ Ok y → Owned o closed count body × (y ≡ x)
 owned o closed count body x y e =
     let h = passed (own_checks o closed count body) x y e in
     let posts = within_true 1 10 count h.0.1.1.1.0 in (

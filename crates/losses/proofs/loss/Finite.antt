@@ -15,10 +15,12 @@ use Rattle.forms.specs.Binary64.{decimal, whole, ◌⊗◌, ◌⊘◌, ◌⊕◌
 use Rattle.forms.specs.Pattern.{◌to◌, in_range}
 use Rattle.forms.specs.Form.{floating_ranges, fixed_ranges, station_ranges, in_ranges, ranged, form_of}
 use Rattle.losses.specs.Coefficient.{rows, find, row_if, row_of}
-use Rattle.amounts.specs.Decline.{Answer, taken, declined, on_taken, layout, range}
+use Rattle.losses.specs.declared.coefficient.Entry.{Entry}
+use Rattle.std.specs.Prelude.{Ok, Err}
+use Rattle.amounts.specs.Decline.{Answer, on_taken}
+use Rattle.amounts.specs.declared.decline.Decline.TheVariants.{Layout, OutOfRange}
 use Rattle.losses.specs.Loss.{floating_roof_kg, fixed_roof_kg, station_kg, kg_of}
 use Rattle.losses.specs.declared.coefficient.CoefficientRow.{CoefficientRow}
-use Rattle.losses.specs.declared.coefficient.Entry.{Entry}
 use Rattle.forms.specs.declared.form.LossForm.{LossForm}
 use Rattle.forms.specs.declared.form.LossForm.TheVariants.{FloatingRoof, FixedRoof, Station}
 use Rattle.amounts.proofs.decline.Laws.{one_taken}
@@ -246,6 +248,7 @@ exceeds (fin true m e) f = passed (ltb 0 (m * up e * 1 + 2000000 * down e)) _ (l
 -- ---- the inputs and the coefficients
 -- in a range of whole numbers up to 2 ^ n at most
 pub in_range_lem : (lo hi n : ℕ) → T (leb lo (2 ^ 53) && (leb hi (2 ^ 53) && leb hi (2 ^ n))) → {x : Float} → in_range (lo to hi) x ≡ true → Within n x
+unfolding in_range
 in_range_lem lo hi n t {x} e =
     let g = both (le (whole lo) x) (le x (whole hi)) (both (finite x) (le (whole lo) x && le x (whole hi)) e).1 in
     let s = and_r (leb lo (2 ^ 53)) (leb hi (2 ^ 53) && leb hi (2 ^ n)) t in
@@ -255,6 +258,7 @@ in_range_lem lo hi n t {x} e =
 
 -- in a range from 1 up
 pub in_range_one : (hi : ℕ) {x : Float} → in_range (1 to hi) x ≡ true → FromOne x
+unfolding in_range
 in_range_one hi {x} e =
     let f = both (finite x) (le (whole 1) x && le x (whole hi)) e in
     from_one_lem x (exact_whole 1 (lit≤ tt)) (T_of f.0) (T_of (both (le (whole 1) x) (le x (whole hi)) f.1).0)
@@ -277,25 +281,25 @@ all_within [] = true
 all_within (e ∷ es) = entry_within e && all_within es
 
 -- a row that is found passes the test
-find_within : (es : List Entry) → all_within es ≡ true → (number : ℕ) (row : CoefficientRow) → find number es ≡ taken row → RowWithin row
+find_within : (es : List Entry) → all_within es ≡ true → (number : ℕ) (row : CoefficientRow) → find number es ≡ Ok row → RowWithin row
 unfolding all_within find
-find_within [] a number row h = let z : ◌≡◌ {A = ℕ} 0 1 = cc in absurd (omega arith)
+find_within [] a number row h = cc
 find_within (e ∷ es) a number row h = go (eqb e.number number) h (find_within es (both (entry_within e) (all_within es) a).1 number row)
   where
-    go : (b : Bool) → row_if b e.row (find number es) ≡ taken row → (find number es ≡ taken row → RowWithin row) → RowWithin row
+    go : (b : Bool) → row_if b e.row (find number es) ≡ Ok row → (find number es ≡ Ok row → RowWithin row) → RowWithin row
     go true p rest =
         let same : e.row ≡ row = cc in
         subst RowWithin same (both (in_range (0 to 1) e.row.k) (in_range (1 to 1000) e.row.m) (both (entry_within e) (all_within es) a).0)
     go false p rest = rest p
 
 -- so each row of the table is in these ranges
-pub rows_within : (number : ℕ) (row : CoefficientRow) → row_of number ≡ taken row → RowWithin row
-unfolding row_of all_within le round
+pub rows_within : (number : ℕ) (row : CoefficientRow) → row_of number ≡ Ok row → RowWithin row
+unfolding row_of all_within in_range le round
 rows_within number row h = find_within rows refl number row h
 
 -- ---- the three forms, each step with its own power of two
 floating_within : (row : CoefficientRow) (w u p q : Float) → RowWithin row → in_ranges floating_ranges w u p q ≡ true → Within 49 (floating_roof_kg row w u p)
-unfolding floating_roof_kg le round
+unfolding floating_roof_kg in_range le round
 floating_within row w u p q c h =
     let r = each_in_range floating_ranges w u p q h in
     let spread = div_within (in_range_lem 0 4 2 tt {x = whole 4} refl) (in_range_one 1000 r.0) (lit≤ tt) in
@@ -304,7 +308,7 @@ floating_within row w u p q c h =
     mul_within (mul_within (div_within drawn (in_range_one 100 {x = decimal 224 10} refl) (lit≤ tt)) percent (lit≤ tt)) (billion r.2) (lit≤ tt)
 
 fixed_within : (row : CoefficientRow) (w u p q : Float) → RowWithin row → in_ranges fixed_ranges w u p q ≡ true → Within 70 (fixed_roof_kg row w u p q)
-unfolding fixed_roof_kg le round
+unfolding fixed_roof_kg in_range le round
 fixed_within row w u p q c h =
     let r = each_in_range fixed_ranges w u p q h in
     let density = mul_within (in_range_lem 0 1 0 tt {x = decimal 41 1000} refl) (in_range_lem 1 1000 10 tt c.1) (lit≤ tt) in
@@ -319,34 +323,34 @@ station_within w u p q h =
 
 -- what is taken with a row is taken with one that was found
 taken_within : {n : ℕ} (found : Answer CoefficientRow) (f : CoefficientRow → Float) (x : Float)
-    → ((row : CoefficientRow) → found ≡ taken row → Within n (f row)) → on_taken found (λ row. taken (f row)) ≡ taken x → Within n x
-taken_within {n} (taken row) f x h e = let same : f row ≡ x = cc in subst (Within n) same (h row refl)
-taken_within (declined d) f x h e = let z : ◌≡◌ {A = ℕ} 0 1 = cc in absurd (omega arith)
+    → ((row : CoefficientRow) → found ≡ Ok row → Within n (f row)) → on_taken found (λ row. Ok (f row)) ≡ Ok x → Within n x
+taken_within {n} (Ok row) f x h e = let same : f row ≡ x = cc in subst (Within n) same (h row refl)
+taken_within (Err d) f x h e = cc
 
 -- the kg of a form that is taken, with a row like those of the table where one is used
-pub kg_finite : (form : ℕ) (found : Answer CoefficientRow) (w u p q : Float) (f : LossForm) (x : Float) → ((row : CoefficientRow) → found ≡ taken row → RowWithin row)
-    → form_of form w u p q ≡ taken f → kg_of f found ≡ taken x → (finite x ≡ true) × (le (whole 0) x ≡ true)
+pub kg_finite : (form : ℕ) (found : Answer CoefficientRow) (w u p q : Float) (f : LossForm) (x : Float) → ((row : CoefficientRow) → found ≡ Ok row → RowWithin row)
+    → form_of form w u p q ≡ Ok f → kg_of f found ≡ Ok x → (finite x ≡ true) × (le (whole 0) x ≡ true)
 unfolding form_of ranged
 kg_finite form found w u p q f x c = go (eqb form 1) (eqb form 2) (eqb form 3)
   where
     go : (a b d : Bool)
         → cond a (ranged floating_ranges w u p q (FloatingRoof w u p)) (cond b (ranged fixed_ranges w u p q (FixedRoof w u p q))
-        (cond d (ranged station_ranges w u p q (Station w u p q)) (declined layout))) ≡ taken f
-        → kg_of f found ≡ taken x → (finite x ≡ true) × (le (whole 0) x ≡ true)
+        (cond d (ranged station_ranges w u p q (Station w u p q)) (Err Layout))) ≡ Ok f
+        → kg_of f found ≡ Ok x → (finite x ≡ true) × (le (whole 0) x ≡ true)
     go true b d h e =
-        let z = one_taken (in_ranges floating_ranges w u p q) range (FloatingRoof w u p) f (sym h) in
+        let z = one_taken (in_ranges floating_ranges w u p q) OutOfRange (FloatingRoof w u p) f (sym h) in
         within_finite (taken_within found (λ row. floating_roof_kg row w u p) x (λ row t. floating_within row w u p q (c row t) z.0) (rw z.1 at e))
     go false true d h e =
-        let z = one_taken (in_ranges fixed_ranges w u p q) range (FixedRoof w u p q) f (sym h) in
+        let z = one_taken (in_ranges fixed_ranges w u p q) OutOfRange (FixedRoof w u p q) f (sym h) in
         within_finite (taken_within found (λ row. fixed_roof_kg row w u p q) x (λ row t. fixed_within row w u p q (c row t) z.0) (rw z.1 at e))
     go false false true h e =
-        let z = one_taken (in_ranges station_ranges w u p q) range (Station w u p q) f (sym h) in
-        let k : taken (station_kg w u p q) ≡ taken x = rw z.1 at e in
+        let z = one_taken (in_ranges station_ranges w u p q) OutOfRange (Station w u p q) f (sym h) in
+        let k : Ok (station_kg w u p q) ≡ Ok x = rw z.1 at e in
         let same : station_kg w u p q ≡ x = cc in
         within_finite (subst (Within 61) same (station_within w u p q z.0))
-    go false false false h e = let z : ◌≡◌ {A = ℕ} 0 1 = cc in absurd (omega arith)
+    go false false false h e = cc
 
 -- the same of a substance's number
-pub vapour_kg_finite : (form number : ℕ) (w u p q : Float) (f : LossForm) (x : Float) → form_of form w u p q ≡ taken f → kg_of f (row_of number) ≡ taken x
+pub vapour_kg_finite : (form number : ℕ) (w u p q : Float) (f : LossForm) (x : Float) → form_of form w u p q ≡ Ok f → kg_of f (row_of number) ≡ Ok x
     → (finite x ≡ true) × (le (whole 0) x ≡ true)
 vapour_kg_finite form number w u p q f x = kg_finite form (row_of number) w u p q f x (rows_within number)

@@ -1,18 +1,20 @@
 -- A loss that is taken is at most 2×10^15 micrograms, after its rounding. Assumes nothing.
-use Rattle.std.proofs.Common.{◌≡◌, ℕ, zero, suc, ◌+◌, ◌-◌, ◌*◌, ◌/◌, ◌^◌, ◌<◌, ◌≤◌, min, Bool, true, false, cond, T, ltb, leb, [], ◌∷◌, sym, refl, ap, ◌∙◌, subst, zero-le, le_trans, le_of_eq, mul-pos, arith, lit<, le-leb}
+use Rattle.std.proofs.Common.{◌≡◌, ℕ, zero, suc, ◌+◌, ◌-◌, ◌*◌, ◌/◌, ◌^◌, ◌<◌, ◌≤◌, min, Bool, true, false, cond, T, ltb, sym, refl, ap, ◌∙◌, subst, zero-le, le_trans, le_of_eq, mul-pos, arith, lit<}
+use Rattle.std.proofs.lemmas.Bool.Decides.{nat_tests}
 use native.Mathlib.Nat.{div-le_of_le-mul}
 use lib.Ieee.{Float, Format, nan, inf, fin, binary64, up, down, low, emax, prec, odd, units, round, mul, le, lt, eq, to_unsigned}
 use lib.Ieee.Fits.{round_is, down_pos}
 use lib.Ieee.Order.{round_mono}
 use Rattle.forms.specs.Binary64.{whole}
-use Rattle.amounts.specs.Decline.{Answer, taken, declined, check, checked, on_taken, layout, range, excess}
+use Rattle.std.specs.Prelude.{Ok, Err}
+use Rattle.amounts.specs.Decline.{Answer, checked}
+use Rattle.amounts.specs.declared.decline.Decline.TheVariants.{OutOfRange, Excess}
 use Rattle.losses.specs.Coefficient.{row_of}
-use Rattle.forms.specs.Form.{station_ranges, in_ranges, form_of, in_form}
+use Rattle.forms.specs.Form.{form_of, in_form}
 use Rattle.losses.specs.Loss.{micrograms_of, kg_of, limited_of, loss_of, loss_over, vapour_of}
 use Rattle.losses.specs.Whole.{whole_part}
 use Rattle.losses.specs.declared.coefficient.CoefficientRow.{CoefficientRow}
 use Rattle.forms.specs.declared.form.LossForm.{LossForm}
-use Rattle.forms.specs.declared.form.LossForm.TheVariants.{Station}
 use Rattle.amounts.proofs.decline.Laws.{one_taken, was_taken}
 use Rattle.forms.proofs.form.Laws.{not_in_form}
 use Rattle.losses.proofs.loss.Finite.{at_most}
@@ -68,45 +70,37 @@ micrograms_bounded (fin false m e) h =
     (round_mono binary64 (m * up e * 1000000000) (down e * 1) 2000000000000000 1 (mul-pos (down_pos e) (lit< tt)) (lit< tt)
     (scale (m * up e) (down e) (at_most (m * up e * 1) (2000000 * down e) h)))
 
-pub limited_bounded : (kg : Float) (n : ℕ) → limited_of kg ≡ taken n → n ≤ 2000000000000000
+pub limited_bounded : (kg : Float) (n : ℕ) → limited_of kg ≡ Ok n → n ≤ 2000000000000000
 unfolding limited_of
 limited_bounded kg n e =
-    let z = one_taken (le kg (whole 2000000)) excess (micrograms_of kg) n (sym e) in
+    let z = one_taken (le kg (whole 2000000)) Excess (micrograms_of kg) n (sym e) in
     rw z.1 (micrograms_bounded kg (subst T (sym z.0) tt))
 
 -- over any row
-pub loss_bounded : (form : LossForm) (found : Answer CoefficientRow) (n : ℕ) → loss_of form found ≡ taken n → n ≤ 2000000000000000
+pub loss_bounded : (form : LossForm) (found : Answer CoefficientRow) (n : ℕ) → loss_of form found ≡ Ok n → n ≤ 2000000000000000
 unfolding loss_of
 loss_bounded form found n e = let z = was_taken (kg_of form found) limited_of n e in limited_bounded z.0 n z.2
 
 -- by a form's number, over any row
-pub over_bounded : (form : ℕ) (found : Answer CoefficientRow) (w u p q : Float) (n : ℕ) → loss_over form found w u p q ≡ taken n → n ≤ 2000000000000000
+pub over_bounded : (form : ℕ) (found : Answer CoefficientRow) (w u p q : Float) (n : ℕ) → loss_over form found w u p q ≡ Ok n → n ≤ 2000000000000000
 unfolding loss_over
 over_bounded form found w u p q n e = let z = was_taken (form_of form w u p q) (λ f. loss_of f found) n e in loss_bounded z.0 found n z.2
 
 -- where the floats of one of the three forms aren't in their ranges it is a 7
-pub over_range : (form : ℕ) (found : Answer CoefficientRow) (w u p q : Float) → 1 ≤ form → form < 4 → in_form form w u p q ≡ false → loss_over form found w u p q ≡ declined range
+pub over_range : (form : ℕ) (found : Answer CoefficientRow) (w u p q : Float) → 1 ≤ form → form < 4 → in_form form w u p q ≡ false → loss_over form found w u p q ≡ Err OutOfRange
 unfolding loss_over
 over_range form found w u p q low high e = rw (not_in_form form w u p q low high e)
 
 -- a station's loss is the same over any two rows
 pub station_alone : (found other : Answer CoefficientRow) (w u p q : Float) → loss_over 3 found w u p q ≡ loss_over 3 other w u p q
 unfolding loss_over form_of loss_of checked
-station_alone found other w u p q = go (in_ranges station_ranges w u p q)
-  where
-    go : (t : Bool) → on_taken (checked (check t range ∷ []) (Station w u p q)) (λ f. loss_of f found) ≡ on_taken (checked (check t range ∷ []) (Station w u p q)) (λ f. loss_of f other)
-    go true = refl
-    go false = refl
+station_alone found other w u p q = grind arith
 
 -- a loss called alone is that of its substance's row
 pub vapour_over : (form number : ℕ) (w u p q : Float) → 1 ≤ number → vapour_of form number w u p q ≡ loss_over form (row_of number) w u p q
 unfolding vapour_of
-vapour_over form number w u p q h = rw (le-leb 1 number h)
+vapour_over form number w u p q h = grind (arith, nat_tests)
 
-pub vapour_bounded : (form number : ℕ) (w u p q : Float) (n : ℕ) → vapour_of form number w u p q ≡ taken n → n ≤ 2000000000000000
+pub vapour_bounded : (form number : ℕ) (w u p q : Float) (n : ℕ) → vapour_of form number w u p q ≡ Ok n → n ≤ 2000000000000000
 unfolding vapour_of
-vapour_bounded form number w u p q n = go (leb 1 number)
-  where
-    go : (t : Bool) → cond t (loss_over form (row_of number) w u p q) (declined layout) ≡ taken n → n ≤ 2000000000000000
-    go true e = over_bounded form (row_of number) w u p q n e
-    go false e = let z : ◌≡◌ {A = ℕ} 0 1 = cc in absurd (omega arith)
+vapour_bounded form number w u p q n e = grind (arith, over_bounded form (row_of number) w u p q n)

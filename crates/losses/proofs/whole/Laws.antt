@@ -4,12 +4,14 @@ use mathlib.Core.Bool.{false≢true}
 use native.Mathlib.Nat.{div-eq_of_lt}
 use lib.Pow.{field}
 use lib.Bits.{bit_and, bit_or, and_mask, or_shifted_r}
-use lib.Ieee.{Float, nan, inf, fin, binary64, of_fields, of_bits, to_bits, odd, up, down, fits, is_nan, le, lt, eq, round, to_unsigned}
+use lib.Ieee.{Float, nan, inf, fin, binary64, of_fields, of_bits, to_bits, odd, up, down, fits, le, lt, eq, round, to_unsigned}
 use lib.Ieee.Exact.{HasValue, odd_sign}
 use lib.Ieee.Bits.{of_bits-to_bits}
 use lib.Ieee.Fits.{down_pos}
 use lib.Ieee.Order.{le_of_values}
 use Rattle.forms.specs.Binary64.{whole}
+use Rattle.std.specs.Prelude.{nat_lt, if◌then◌else◌}
+use Rattle.std.proofs.lemmas.Bool.Decides.{nat_tests}
 use Rattle.losses.specs.Whole.{whole_part}
 use Rattle.forms.proofs.pattern.Laws.{below_zero}
 use Rattle.std.proofs.num.Truncating.{one, two_to, up_by, cut_down, cut_up, below_one}
@@ -86,14 +88,11 @@ small_field s (suc j) t p q = go (eqb (suc j) 2047) (eqb t 0) s p q
     go true false s p q = absurd (yes p)
     go false b s p q = lt_of_not-le (λ (h : 1022 ≤ j). outside s (odd 53 s (2 ^ 52 + t) j 1074) ((2 ^ 52 + t) * 2 ^ j) (odd_sign 53 s (2 ^ 52 + t) j 1074) (units j t h) p q)
 
-number : (x : Float) → lt x limit ≡ true → T (not (is_nan x))
-unfolding lt is_nan
-number nan h = absurd (yes h)
-number (inf s) h = tt
-number (fin s m e) h = tt
-
 -- what the proof of `whole_part` cites: of an x that the format holds and that is from 0 to below 2 ^ 64, the exponent's field and the digits with their leading one
-module _ (x : Float) (F : T (fits binary64 x)) (a : le nought x ≡ true) (c : lt x limit ≡ true) where
+module _ (x : Float) (held : fits binary64 x ≡ true) (a : le nought x ≡ true) (c : lt x limit ≡ true) where
+  F : T (fits binary64 x)
+  F = yes held
+
   abbrev b : ℕ
   b = to_bits binary64 x
 
@@ -105,9 +104,6 @@ module _ (x : Float) (F : T (fits binary64 x)) (a : le nought x ≡ true) (c : l
 
   under : T (lt x (two_to 64))
   under = subst (λ (k : Float). T (lt x k)) limit_is (yes c)
-
-  pub is_number : T (not (is_nan x))
-  is_number = number x c
 
   -- from 1 on, the field is what stands above the digits; below 1 it is small
   sides : (T (le one x) × (exponent ≡ b / 2 ^ 52)) ⊎ (T (not (le one x)) × (exponent ≤ 1022))
@@ -132,11 +128,8 @@ module _ (x : Float) (F : T (fits binary64 x)) (a : le nought x ≡ true) (c : l
   digits_lt : digits < 2 ^ 53
   digits_lt = rw (and_mask b 52, or_shifted_r 1 52 (b % 2 ^ 52) (mod-lt b (pow_pos 52))) (omega (arith, mod-lt b (pow_pos 52)))
 
-  shifted_out : exponent ≤ 1022 → digits / 2 ^ (1075 - exponent) ≡ 0
-  shifted_out h = div-eq_of_lt (lt_of_lt_of_le digits_lt (pow_mono (go exponent h)))
-    where
-      go : (e : ℕ) → e ≤ 1022 → 53 ≤ 1075 - e
-      go e h = omega arith
+  shifted_out : (n : ℕ) → 53 ≤ n → digits / 2 ^ n ≡ 0
+  shifted_out n h = div-eq_of_lt (lt_of_lt_of_le digits_lt (pow_mono h))
 
   pub up_fits : exponent - 1075 < 64
   up_fits = elim sides [ inl z ↦ rw z.1 (up_by x F z.0 under) | inr z ↦ go exponent z.1 ]
@@ -144,11 +137,24 @@ module _ (x : Float) (F : T (fits binary64 x)) (a : le nought x ≡ true) (c : l
       go : (e : ℕ) → e ≤ 1022 → e - 1075 < 64
       go e h = omega arith
 
-  pub cut : exponent ≤ 1075 → digits / 2 ^ (1075 - exponent) ≡ whole_part x
-  cut k = elim sides [ inl z ↦ rw z.1 (cut_down x F z.0 under (rw z.1 at k)) | inr z ↦ shifted_out z.1 ∙ below_one 64 x z.0 ]
+  by_division : exponent ≤ 1075 → digits / 2 ^ (1075 - exponent) ≡ whole_part x
+  by_division k = elim sides [ inl z ↦ rw z.1 (cut_down x F z.0 under (rw z.1 at k)) | inr z ↦ shifted_out (1075 - exponent) (go exponent z.1) ∙ below_one 64 x z.0 ]
+    where
+      go : (e : ℕ) → e ≤ 1022 → 53 ≤ 1075 - e
+      go e h = omega arith
+
+  -- from 64 places on no digit is left
+  pub cut : exponent ≤ 1075 → (if nat_lt (1075 - exponent) 64 then digits / 2 ^ (1075 - exponent) else 0) ≡ whole_part x
+  cut k = go (1075 - exponent) (by_division k)
+    where
+      go : (n : ℕ) → digits / 2 ^ n ≡ whole_part x → (if nat_lt n 64 then digits / 2 ^ n else 0) ≡ whole_part x
+      go n h = grind (arith, nat_tests, shifted_out n)
 
   pub raised : 1075 < exponent → digits * 2 ^ (exponent - 1075) % 2 ^ 64 ≡ whole_part x
   raised k = elim sides [ inl z ↦ rw z.1 (cut_up x F z.0 under (rw z.1 at k)) | inr z ↦ absurd (go exponent z.1 k) ]
     where
       go : (e : ℕ) → e ≤ 1022 → 1075 < e → ⊥
       go e h k = omega arith
+
+-- each way through the code
+pub ruleset by_bits = (negative, saturated, up_fits, cut, raised)

@@ -9,7 +9,9 @@ use lib.ListN.{length, get_or, replicate, length-replicate}
 use borrow.Author.Tests.{eqb-true, eq-eqb, leb-true}
 use Rattle.amounts.specs.Class.{is_class}
 use Rattle.amounts.specs.Content.{counted_from, counted_of}
-use Rattle.amounts.specs.Decline.{taken, check, checked, value_or, layout}
+use Rattle.std.specs.Prelude.{Ok}
+use Rattle.amounts.specs.Decline.{check, checked, value_or}
+use Rattle.amounts.specs.declared.decline.Decline.TheVariants.{Layout}
 use Rattle.layout.specs.Outline.{may_post}
 use Rattle.plant.specs.Setup.{no_rates, materials_in, stages_in, classes_in, contents_in, counted_all, setup_checks, fresh_setup, setup_of, Rated, SoundSetup}
 use Rattle.layout.specs.declared.outline.Outline.{Outline}
@@ -51,7 +53,7 @@ counted_le : (class ppm : ℕ) → value_or 0 (counted_of class ppm) ≤ 1000000
 unfolding counted_of checked
 counted_le class ppm = go (is_class class) (leb ppm 1000000) (leb (counted_from class) ppm) refl
   where
-    go : (t u v : Bool) → leb ppm 1000000 ≡ u → value_or 0 (checked (check t layout ∷ check u layout ∷ []) (cond v ppm 0)) ≤ 1000000
+    go : (t u v : Bool) → leb ppm 1000000 ≡ u → value_or 0 (checked (check t Layout ∷ check u Layout ∷ []) (cond v ppm 0)) ≤ 1000000
     go false u v e = omega arith
     go true false v e = omega arith
     go true true true e = leb-true ppm 1000000 e
@@ -70,7 +72,7 @@ pub record Accepts (o : Outline) (count : ℕ) (body : List ℕ) : Type 0 where
   pub materials : materials_in body ≤ 12
   pub stages : stages_in body ≤ 8
 
-pub accepted : {A : Type 0} (o : Outline) (count : ℕ) (body : List ℕ) (x y : A) → checked (setup_checks o count body) x ≡ taken y → Accepts o count body × (y ≡ x)
+pub accepted : {A : Type 0} (o : Outline) (count : ℕ) (body : List ℕ) (x y : A) → checked (setup_checks o count body) x ≡ Ok y → Accepts o count body × (y ≡ x)
 accepted o count body x y e =
     let h = passed (setup_checks o count body) x y e in (
       record {

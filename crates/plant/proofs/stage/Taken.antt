@@ -8,7 +8,8 @@ use lib.Dec.{eqb, ltb}
 use lib.ListN.{length, drop, length-set}
 use borrow.Author.Tests.{eqb-true, ne_eqb, leb-true, ltb-true}
 use Rattle.amounts.specs.Content.{is_ppm}
-use Rattle.amounts.specs.Decline.{Answer, taken, is_taken, checked}
+use Rattle.std.specs.Prelude.{Ok}
+use Rattle.amounts.specs.Decline.{Answer, is_taken, checked}
 use Rattle.layout.specs.Outline.{may_post}
 use Rattle.plant.specs.Setup.{no_rates, Rated, SoundSetup}
 use Rattle.plant.specs.Stage.{sewered, landfilled, side_row, water_row, rate_row, pair_fits, all_pairs_fit, stage_checks, with_stage}
@@ -40,7 +41,7 @@ pub record Accepts (o : Outline) (stage : ℕ) (body : List ℕ) : Type 0 where
   pub stages : o.stages ≤ 8
   pub pairs : all_pairs_fit o.substances (drop 2 body) ≡ true
 
-pub accepted : {A : Type 0} (o : Outline) (stage : ℕ) (body : List ℕ) (x y : A) → checked (stage_checks o stage body) x ≡ taken y → Accepts o stage body × (y ≡ x)
+pub accepted : {A : Type 0} (o : Outline) (stage : ℕ) (body : List ℕ) (x y : A) → checked (stage_checks o stage body) x ≡ Ok y → Accepts o stage body × (y ≡ x)
 accepted o stage body x y e =
     let h = passed (stage_checks o stage body) x y e in
     let named = and_true (ltb o.described o.stages) (eqb stage o.described) h.0.0 in (

@@ -7,25 +7,7 @@ use native.Mathlib.Decide.{ℕ_discrete}
 use borrow.Author.Tests.{eq-eqb, ne_eqb, le-leb, lt-leb}
 use lib.ListN.{length, take, drop, length-drop}
 use Rattle.encoding.specs.Bytes.{le, part}
-use Rattle.pages.specs.Calls.{post, end}
-use Rattle.records.specs.Records.{Recorded, call, malformed, set_up_of, record_of, tag_of, span_of, bytes_of, first_of, rest_of, behind, records_to, records_in}
-
--- ---- a record by its tag
-
-module _ (tag : ℕ) (s : List ℕ) where
-  pub set_up_is : tag ≡ 83 → record_of tag s ≡ call (set_up_of s)
-  set_up_is e = rw (eq-eqb tag 83 e)
-
-  module _ (no-set-up : tag ≡ 83 → ⊥) where
-    pub post_is : tag ≡ 80 → record_of tag s ≡ call (post s)
-    post_is e = rw (ne_eqb tag 83 no-set-up, eq-eqb tag 80 e)
-
-    module _ (no-post : tag ≡ 80 → ⊥) where
-      pub end_is : tag ≡ 69 → record_of tag s ≡ call end
-      end_is e = rw (ne_eqb tag 83 no-set-up, ne_eqb tag 80 no-post, eq-eqb tag 69 e)
-
-      pub none_is : (tag ≡ 69 → ⊥) → record_of tag s ≡ malformed
-      none_is d = rw (ne_eqb tag 83 no-set-up, ne_eqb tag 80 no-post, ne_eqb tag 69 d)
+use Rattle.records.specs.Records.{Recorded, malformed, record_of, tag_of, span_of, bytes_of, first_of, rest_of, behind, records_to, records_in}
 
 -- ---- the first record
 

@@ -1,57 +1,33 @@
 -- What a report of a sound book says: it shows what was handled, and with the store what entered. Assumes nothing.
-use mathlib.Core.Path.{◌≡◌, sym, ap, ap₂, ◌∙◌}
-use mathlib.Core.Bool.{Bool}
-use Prim.Native.Nat.{ℕ, ◌+◌, ◌*◌, ◌^◌, ◌≤◌, ◌<◌}
-use native.Mathlib.Omega.{arith}
-use borrow.Author.Tests.{lt-ltb, le-ltb}
-use lib.ListN.{get_or}
-use Rattle.amounts.specs.Decline.{taken, declined}
+use Rattle.std.proofs.Common.{◌≡◌, sym, ◌∙◌, List, ℕ, ◌+◌, ◌*◌, ◌^◌, ◌≤◌, ◌<◌, get_or, arith}
 use Rattle.amounts.specs.Filed.{step_of, filed_of}
 use Rattle.amounts.proofs.filed.Laws.{filed_within}
+use Rattle.encoding.proofs.Each.{sum_again, sum_mono}
 use Rattle.plant.specs.declared.setup.Setup.{Setup}
-use Rattle.book.specs.Ledger.{total}
-use Rattle.book.specs.Site.{stored, in_year, Sound, SoundYear}
-use Rattle.plant.specs.Setup.{SoundSetup}
-use Rattle.book.specs.declared.site.Book.{Book}
+use Rattle.book.specs.Ledger.{brings, total}
+use Rattle.book.specs.Site.{Book, stored, stored_to, in_year, Sound, SoundYear}
 use Rattle.book.specs.declared.site.Year.{Year}
-use Rattle.report.specs.Fate.{fate_to, six_of, weigh, map_headings}
-use Rattle.report.specs.Report.{filing_of, due_in, report_in, report_at, report_of}
+use Rattle.report.specs.Fate.{six_of, weigh, map_headings}
+use Rattle.report.specs.Report.{report_at}
 use Rattle.report.specs.declared.fate.Headings.{Headings}
-use Rattle.report.specs.declared.fate.Fate.{Fate}
-use Rattle.report.specs.declared.report.Filing.{Filing}
-use Rattle.report.specs.declared.report.Report.{Report}
 use Rattle.report.proofs.fate.Laws.{fate_total}
 
--- ---- putting a report together
+-- ---- what fits 64 bits
 
--- what a sound year holds of a substance fits 64 bits
+-- a material's part of a store is within the whole, with the parts before it
+pub stored_le : (store counted : List ℕ) (s m : ℕ) → m < 12
+    → stored_to store counted s m + get_or store m 0 * get_or counted (m * 8 + s) 0 ≤ stored_to store counted s 12
+stored_le store counted s m h =
+    let each : ℕ → ℕ = λ m. brings counted m (get_or store m 0) s in
+    omega (arith, sum_again m each, sum_mono (m + 1) 12 each (omega arith))
+
+-- what a sound year holds of a substance
 module _ (u : Setup) (y : Year) (h : SoundYear u y) (s : ℕ) (hs : s < 8) where
   pub total_fits : total y.sums s < 2 ^ 64
   total_fits = omega (arith, h.posts_few, h.bounded s hs)
 
   pub stored_fits : stored u y s < 2 ^ 64
   stored_fits = omega (arith, h.posts_few, h.bounded s hs)
-
-pub report_is : (u : Setup) (y : Year) (s : ℕ) (due : Bool) (store : ℕ) (fate : Fate) (filed : Filing)
-    → due ≡ due_in u y s → store ≡ stored u y s → fate ≡ fate_to y.sums u s 8 → filed ≡ filing_of due fate.headings
-    → ◌≡◌ {A = Report} (record { posts = y.posts; number = get_or u.numbers s 0; handled = get_or y.handled s 0; due = due; store = store; fate = fate; filed = filed }) (report_in u y s)
-report_is u y s due store fate filed d t l f = rw (f, d, t, l)
-
--- `report_of` has the set-up and the year from the book
-pub sound_parts : (b : Book) → Sound b → (u : Setup) (y : Year) → u ≡ b.setup → y ≡ b.year → SoundSetup u × SoundYear u y
-sound_parts b h u y p q = rw (p, q) (h.setup, h.year)
-
-pub report_known : (b : Book) (s : ℕ) (u : Setup) (y : Year) (r : Report) → u ≡ b.setup → y ≡ b.year → s < u.outline.substances → r ≡ report_in u y s → taken r ≡ report_of b s
-unfolding report_of
-report_known b s u y r p q h e =
-    let known : s < b.setup.outline.substances = omega (arith, ap (λ (x : Setup). x.outline.substances) p) in
-    rw (lt-ltb s b.setup.outline.substances known) (ap taken (e ∙ ap₂ (λ (x : Setup) (z : Year). report_in x z s) p q))
-
-pub report_unknown : (b : Book) (s : ℕ) (u : Setup) → u ≡ b.setup → u.outline.substances ≤ s → declined 12 ≡ report_of b s
-unfolding report_of
-report_unknown b s u p h =
-    let unknown : b.setup.outline.substances ≤ s = omega (arith, ap (λ (x : Setup). x.outline.substances) p) in
-    rw (le-ltb s b.setup.outline.substances unknown)
 
 -- ---- what a report says, over a sound book
 
@@ -65,17 +41,11 @@ module _ (b : Book) (h : Sound b) (s : ℕ) (hs : s < 8) where
 
   -- and with it what entered
   pub report_entered : (report_at b s).store + weigh (report_at b s).fate ≡ in_year b.setup b.year s
-  report_entered = both (report_at b s).store (weigh (report_at b s).fate) (total b.year.sums s) shown
-    where
-      both : (x y t : ℕ) → y ≡ t → x + y ≡ t + x
-      both x y t e = omega arith
+  report_entered = omega (arith, shown)
 
   -- so each heading is an amount of 64 bits
   pub headings_fit : six_of (report_at b s).fate.headings < 2 ^ 64
-  headings_fit = part (report_at b s).fate (total b.year.sums s) shown (total_fits b.setup b.year h.year s hs)
-    where
-      part : (x : Fate) (t : ℕ) → weigh x ≡ t → t < 2 ^ 64 → six_of x.headings < 2 ^ 64
-      part x t e k = omega arith
+  headings_fit = omega (arith, shown, total_fits b.setup b.year h.year s hs)
 
 -- ---- filed figures
 
@@ -87,15 +57,10 @@ six_steps x = six_of (map_headings step_of x)
 pub figures_within : (x : Headings) → six_of x < 2 ^ 64
     → (2 * six_of (map_headings filed_of x) ≤ 2 * six_of x + six_steps x) × (2 * six_of x ≤ 2 * six_of (map_headings filed_of x) + six_steps x)
 figures_within x h =
-    omega (
-      arith,
-      within x.air (omega arith),
-      within x.water (omega arith),
-      within x.soil (omega arith),
-      within x.land (omega arith),
-      within x.sewer (omega arith),
-      within x.offsite (omega arith),
-    )
-  where
-    within : (a : ℕ) → a < 2 ^ 64 → (2 * filed_of a ≤ 2 * a + step_of a) × (2 * a ≤ 2 * filed_of a + step_of a)
-    within a k = omega (arith, filed_within a k)
+    let air = filed_within x.air (omega arith) in
+    let water = filed_within x.water (omega arith) in
+    let soil = filed_within x.soil (omega arith) in
+    let land = filed_within x.land (omega arith) in
+    let sewer = filed_within x.sewer (omega arith) in
+    let offsite = filed_within x.offsite (omega arith) in
+    (omega arith, omega arith)

@@ -1,85 +1,54 @@
--- A part of so many bytes. Assumes nothing.
-use Rattle.std.proofs.Common.{◌≡◌, ℕ, ◌+◌, ◌-◌, ◌≤◌, ◌<◌, ℤ, pos, negsuc, Bool, true, false, cond, List, length, take, drop, refl, sym, subst, arith, take_all, length-drop}
-use Rattle.std.proofs.Math.Seq.{take-add}
-use Rattle.std.proofs.KnownBytes.{Consumes-trans, Consumes-kept}
-use Rattle.std.specs.Prelude.{Option, eqb}
-use Rattle.std.specs.Io.KnownBytes.{Consumes, IsAtEnd}
-use borrow.Author.Tests.{eqb-true, eqb-false}
-use Rattle.streams.specs.Input.{Holds, Moved, Took, PartTook, end_behind, progress_of, after_read}
-use Rattle.streams.specs.Steps.{GoesOn}
-use Rattle.streams.specs.declared.input.Progress.{Progress}
-use Rattle.streams.specs.declared.input.Progress.TheVariants.{More, Done}
-use Rattle.streams.specs.declared.input.Part.TheVariants.{Full, Short, End}
+-- Calls that are made again, and parts of known bytes. Assumes nothing.
+use Rattle.std.proofs.Common.{◌≡◌, ℕ, ◌+◌, ◌≤◌, List, [], ◌∷◌, ◌++◌, length, take, drop, Option, None, Some, Result, Ok, Err, MutBor, refl, sym, ap}
+use Rattle.std.proofs.Common.{◌∙◌, subst, le_refl, drop_at, length-take-le}
+use Rattle.std.proofs.KnownBytes.{Keeps-refl, Keeps-trans, Consumes-trans}
+use Rattle.std.proofs.lemmas.Slice.{take-put_mid_below}
+use Rattle.std.specs.List.{FoldsTo}
+use Rattle.std.specs.Io.KnownBytes.{Keeps, Consumes, ReadConsumes}
+use Rattle.std.specs.declared.io.Error.{Error}
+use borrow.Rule.Slice.PartMut.{put_mid, post_of}
+use lib.Seq.{take-add, take-append-le}
 
--- a part that goes on has fewer bytes than were asked for
-abbrev pub Stands : ℕ → Progress → Type 0
-Stands room (More n) = n < room
-Stands room (Done p) = Holds room p
+-- ---- calls that are made again
 
-abbrev pub to_read : ℕ → Progress → ℕ
-to_read room (More n) = room - n
-to_read room (Done p) = 0
+module _ {X Y : Type 0} (fails : MutBor X × MutBor Y → Error → MutBor X × MutBor Y → Type 0) (known : X → Option (List ℕ)) where
+  -- the known bytes are left, and the closure holds the same references
+  pub record Leaves (f g : MutBor X × MutBor Y) : Type 0 where
+    pub kept : Keeps (known f.0.now) (known g.0.now)
+    pub reader : g.0.ghost_name ≡ f.0.ghost_name
+    pub part : g.1.ghost_name ≡ f.1.ghost_name
 
-module _ (done room : ℕ) (l : done < room) where
-  ends_within : (t : Bool) → eqb done 0 ≡ t → Holds room (cond t End (Short done))
-  ends_within true q = tt
-  ends_within false q = let some = eqb-false done 0 q in (omega arith, l)
+  -- what each call that fails leaves, all leave
+  pub left_by_calls : ((f : MutBor X × MutBor Y) (e : Error) (g : MutBor X × MutBor Y) → fails f e g → Leaves f g) → (es : List Error) (f g : MutBor X × MutBor Y)
+      → FoldsTo fails f es g → Leaves f g
+  left_by_calls each [] f g h = subst (Leaves f) h (record { kept = Keeps-refl (known f.0.now); reader = refl; part = refl })
+  left_by_calls each (e ∷ es) f g h =
+      let first = each f e h.0 h.1 in
+      let rest = left_by_calls each es h.0 g h.2 in
+      record { kept = Keeps-trans _ _ _ first.kept rest.kept; reader = rest.reader ∙ first.reader; part = rest.part ∙ first.part }
 
-  goes_within : (n : ℕ) (t : Bool) → eqb (done + n) room ≡ t → n ≤ room - done → Stands room (cond t (Done Full) (More (done + n)))
-  goes_within n true q m = tt
-  goes_within n false q m = let other = eqb-false (done + n) room q in omega arith
+consumed_behind : (a b c : Option (List ℕ)) (bs : List ℕ) → Keeps a b → Consumes b c bs → Consumes a c bs
+consumed_behind None b c bs p q = tt
+consumed_behind (Some x) None c bs p q = absurd p
+consumed_behind (Some x) (Some y) None bs p q = absurd q
+consumed_behind (Some x) (Some y) (Some z) bs p q = cc
 
-  brings_within : (n : ℕ) (t : Bool) → n ≤ room - done → Stands room (cond t (Done (end_behind done)) (progress_of (done + n) room))
-  brings_within n true m = ends_within (eqb done 0) refl
-  brings_within n false m = goes_within n (eqb (done + n) room) refl m
+-- a read behind calls that left the known bytes
+pub read_behind : {E : Type 0} (a b c : Option (List ℕ)) (r : Result ℕ E) (part : List ℕ) → Keeps a b → ReadConsumes b c r part → ReadConsumes a c r part
+read_behind a b c (Ok n) part p q = (consumed_behind a b c _ p q.0, q.1)
+read_behind a b c (Err e) part p q = Keeps-trans a b c p q
 
-  stands_after : (got : ℤ) → Moved (room - done) got → Stands room (after_read done room got)
-  stands_after (pos n) m = brings_within n (eqb n 0) m
-  stands_after (negsuc n) m = tt
+-- ---- a part
 
--- ---- of an input of known bytes
+-- what stands behind the bytes that are there is what was read into the rest
+pub take_more : (done k n : ℕ) (part free : List ℕ) → done ≤ length part → n ≤ length free → take (done + n) (put_mid done k part free) ≡ take done part ++ take n free
+take_more done k n part free l m =
+    let rest = free ++ post_of done k part in
+    let behind = drop_at (take done part) rest done (length-take-le done part l) in
+    let all = put_mid done k part free in
+    take-add done n all ∙ ap (λ bs. bs ++ take n (drop done all)) (take-put_mid_below done k part free done (le_refl done) l)
+    ∙ ap (λ bs. take done part ++ take n bs) behind ∙ ap (λ bs. take done part ++ bs) (take-append-le n free (post_of done k part) m)
 
--- a part that goes on has the next ones
-abbrev pub TookSoFar : Option (List ℕ) → Option (List ℕ) → List ℕ → Progress → Type 0
-TookSoFar before after given (More n) = Consumes before after (take n given)
-TookSoFar before after given (Done p) = PartTook before after given p
-
-module _ (a b c : Option (List ℕ)) (done room : ℕ) (part : List ℕ) (long : length part ≡ room) (l : done < room) (h : Consumes a b (take done part)) where
-  joined : (n : ℕ) → Consumes b c (take n (drop done part)) → Consumes a c (take (done + n) part)
-  joined n k = subst (Consumes a c) (sym (take-add done n part)) (Consumes-trans a b c _ _ h k)
-
-  ends : (t : Bool) → eqb done 0 ≡ t → Consumes a c (take done part) → IsAtEnd c → TookSoFar a c part (Done (cond t End (Short done)))
-  ends true q k e = (subst (λ (n : ℕ). Consumes a c (take n part)) (eqb-true done 0 q) k, e)
-  ends false q k e = (k, e)
-
-  goes_on : (n : ℕ) (t : Bool) → eqb (done + n) room ≡ t → Consumes a c (take (done + n) part) → TookSoFar a c part (cond t (Done Full) (More (done + n)))
-  goes_on n true q k = subst (Consumes a c) (take_all (done + n) part (omega (arith, eqb-true (done + n) room q))) k
-  goes_on n false q k = k
-
-  brings : (n : ℕ) (t : Bool) → eqb n 0 ≡ t → Took b c (drop done part) (pos n) → TookSoFar a c part (cond t (Done (end_behind done)) (progress_of (done + n) room))
-  brings n true q (k, e) =
-      let none = eqb-true n 0 q in
-      let some : 0 < length (drop done part) = simp length-drop (omega (arith, long)) in
-      ends (eqb done 0) refl (subst (λ (m : ℕ). Consumes a c (take m part)) {x = done + n} {y = done} (omega arith) (joined n k)) (e none some)
-  brings n false q (k, e) = goes_on n (eqb (done + n) room) refl (joined n k)
-
-  -- a read behind them takes what is next
-  took_after : (got : ℤ) → Took b c (drop done part) got → TookSoFar a c part (after_read done room got)
-  took_after (pos n) k = brings n (eqb n 0) refl k
-  took_after (negsuc n) k = (done, Consumes-kept a b c (take done part) h k)
-
--- one read more of a part that goes on
-module _ (a b c : Option (List ℕ)) (done : ℕ) (given part : List ℕ) (p : Progress) (l : done < length given) (k : GoesOn b c done given part p) where
-  pub stands_on : Stands (length part) p
-  stands_on =
-      let (got, behind, took, made) = k in
-      let long = behind.same_length in
-      subst (Stands (length part)) (sym made)
-      (stands_after done (length part) (omega arith) got (subst (λ (n : ℕ). Moved (n - done) got) (sym long) behind.moved))
-
-  pub took_on : TookSoFar a b given (More done) → TookSoFar a c part p
-  took_on h =
-      let (got, behind, took, made) = k in
-      let long = behind.same_length in
-      subst (TookSoFar a c part) (sym made)
-      (took_after a b c done (length part) part refl (omega arith) (subst (Consumes a b) (sym behind.kept) h) got took)
+pub took_more : (a b c : Option (List ℕ)) (done k n : ℕ) (part free : List ℕ) → done ≤ length part → n ≤ length free → Consumes a b (take done part) → Consumes b c (take n free)
+    → Consumes a c (take (done + n) (put_mid done k part free))
+took_more a b c done k n part free l m p q = subst (Consumes a c) (sym (take_more done k n part free l m)) (Consumes-trans a b c _ _ p q)

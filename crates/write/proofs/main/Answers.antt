@@ -3,5 +3,5 @@ use lib.ListN.{length-replicate}
 use Rattle.write.proofs.main.Goals as goal
 
 -- the level and the type are written, so that the zeros aren't counted one by one
-pub slice_bounds-write_journal-end : goal.slice_bounds-write_journal-end
-slice_bounds-write_journal-end c = sym (length-replicate {0} {A = ℕ} 2097152 0)
+pub slice_bounds-run-end : goal.slice_bounds-run-end
+slice_bounds-run-end c = sym (length-replicate {0} {A = ℕ} 2097152 0)

@@ -1,13 +1,12 @@
-use Prim.Native.Nat.{◌-◌}
-use lib.ListN.{length}
-use Rattle.book.specs.Site.{book_with}
-use Rattle.book.specs.Steps.{year_with}
-use Rattle.book.proofs.blocks.Laws.{Upto}
+use Rattle.std.proofs.Common.{◌≡◌}
+use Rattle.book.specs.Site.{fresh_book}
+use Rattle.book.specs.Blocks.{parts_in, read_all}
 use Rattle.book.proofs.blocks.take_blocks.Given as goal
 
-abbrev pub invariant-loop-at : goal.invariant-loop-at
-invariant-loop-at l =
-    Upto l.journal (book_with l.setup (year_with l.store l.sums l.handled l.posts l.closed) l.blocks) l.at
-
-abbrev pub decreases-loop-at : goal.decreases-loop-at
-decreases-loop-at l = length l.journal - l.at
+-- the book after the parts passed is read on over the rest
+abbrev pub invariant-loop-part : goal.invariant-loop-part
+invariant-loop-part l =
+    record {
+      so_far : read_all l.book l.book.blocks (parts_in l.part-iterator.rest.now) ≡ read_all fresh_book 0 (parts_in l.journal);
+      size : l.part-iterator.size ≡ 512;
+    }

@@ -1,10 +1,6 @@
-use mathlib.Core.Path.{sym}
-use native.Mathlib.Omega.{arith}
-use Rattle.encoding.proofs.bytes.Laws.{le_out, two}
+use mathlib.Core.Path.{◌∙◌}
+use Rattle.encoding.proofs.bytes.Laws.{told}
 use Rattle.encoding.proofs.bytes.le16.Goals as goal
 
-pub returns-then-at-s : goal.returns-then-at-s
-returns-then-at-s c = sym (le_out 2 c.args.at c.args.s.now c.if-at-s.true)
-
 pub returns : goal.returns
-returns c = let a = c.args in omega (arith, two a.at a.s.now)
+returns c = c.from_le_bytes.ensures ∙ told 1 _ _ c.bytes_at.ensures

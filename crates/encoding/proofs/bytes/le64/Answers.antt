@@ -1,10 +1,6 @@
-use mathlib.Core.Path.{sym}
-use native.Mathlib.Omega.{arith}
-use Rattle.encoding.proofs.bytes.Laws.{le_out, split_at}
+use mathlib.Core.Path.{◌∙◌}
+use Rattle.encoding.proofs.bytes.Laws.{told}
 use Rattle.encoding.proofs.bytes.le64.Goals as goal
 
-pub returns-then-at-s : goal.returns-then-at-s
-returns-then-at-s c = sym (le_out 8 c.args.at c.args.s.now c.if-at-s.true)
-
 pub returns : goal.returns
-returns c = let a = c.args in omega (arith, split_at 4 4 a.at a.s.now)
+returns c = c.from_le_bytes.ensures ∙ told 7 _ _ c.bytes_at.ensures

@@ -1,7 +1,10 @@
-use mathlib.Core.Path.{refl}
-use Rattle.layout.proofs.verdict.Laws.{row_is}
+use Rattle.std.proofs.Common.{rules, ◌≡◌, true, eqb, length}
+use Rattle.amounts.specs.Decline.{checked}
 use Rattle.plant.proofs.setup.check_setup.Goals as goal
 
 pub returns : goal.returns
+unfolding checked
 returns c =
-    row_is _ _ _ _ c.row.ensures c.may_set_up.ensures (row_is _ _ _ _ c.row-long.ensures refl c.checked_body.ensures)
+    let turn : eqb c.args.o.substances 0 ≡ true = search rules in
+    let long : eqb (length c.args.body.now) 500 ≡ true = search rules in
+    rw (turn, long) c.check_body.ensures

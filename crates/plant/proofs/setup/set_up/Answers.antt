@@ -1,18 +1,18 @@
+use Rattle.std.proofs.Common.{arith, ap, sym, ◌∙◌, Ok}
 use Rattle.plant.specs.Setup.{setup_checks, setup_of, set_up_on}
-use Rattle.plant.proofs.Ended.{table_accepted, end_declined, end_accepted}
+use Rattle.layout.proofs.verdict.Laws.{accepts, declines}
 use Rattle.plant.proofs.setup.set_up.Goals as goal
 
-pub returns-in-Declined : goal.returns-in-Declined
+pub returns-in_err-check_setup : goal.returns-in_err-check_setup
 unfolding set_up_on
-returns-in-Declined c =
+returns-in_err-check_setup c =
     let a = c.args in
-    end_declined a.u (setup_of a.count a.body.now) (setup_checks a.u.outline a.count a.body.now) _ c.check_setup-verdict.ensures _ c.in-Declined.is
+    let t = declines (tt {0}) (setup_of a.count a.body.now) (setup_checks a.u.now.outline a.count a.body.now) _ (sym c.in_err-check_setup.was ∙ c.check_setup.ensures) in
+    grind (arith, t)
 
 pub returns : goal.returns
 unfolding set_up_on
 returns c =
     let a = c.args in
-    let body = a.body.now in
-    let rows = setup_checks a.u.outline a.count body in
-    end_accepted a.u (setup_of a.count body) _ rows c.parse.ensures
-    (table_accepted rows _ (setup_of a.count body) c.check_setup-verdict.ensures c.in_default.is)
+    let t = accepts (tt {0}) (setup_of a.count a.body.now) (setup_checks a.u.now.outline a.count a.body.now) (sym c.in_ok-check_setup.was ∙ c.check_setup.ensures) in
+    ap Ok c.parse.ensures ∙ sym t

@@ -1,18 +1,17 @@
-use mathlib.Core.Path.{refl, sym, ◌∙◌}
+use Rattle.std.proofs.Common.{sym, ap, ◌∙◌, arith, rules}
+use denote.MutBor.{ghost_name}
+use Rattle.pages.specs.Page.{Page, fresh_page}
 use Rattle.records.specs.Batch.{written_in}
-use Rattle.records.proofs.batch.Laws.{ends_stopped, ends_complete}
+use Rattle.records.specs.Recorder.{Reached}
+use Rattle.records.proofs.batch.Laws.{whole}
 use Rattle.records.proofs.batch.write_records.Goals as goal
 
-pub returns-in-At : goal.returns-in-At
-returns-in-At c =
-    let a = c.args in
-    let l = a.buffer.now in
-    let ends = ends_stopped l (written_in l a.records.now) c.in-At.number c.in-At.place (sym c.in-At.is ∙ c.stop_in-stop.ensures l refl) in
-    record { value = ends.0; buffer_after = ends.1 }
-
-pub returns-in-Nowhere : goal.returns-in-Nowhere
-returns-in-Nowhere c =
-    let a = c.args in
-    let l = a.buffer.now in
-    let ends = ends_complete l (written_in l a.records.now) c.fill.result c.fill.new.buffer (sym c.in-Nowhere.is ∙ c.stop_in-stop.ensures l refl) c.fill.ensures in
-    record { value = ends.0; buffer_after = ends.1 }
+pub returns-clause-buffer_after : goal.returns-clause-buffer_after
+returns-clause-buffer_after c =
+    let lent = c.args.buffer.now in
+    let fresh : Reached c.new.result.room c.new.result.tally (fresh_page lent) = search rules in
+    let w = whole (written_in lent c.args.records.now) _ (sym c.in_ok-take_all.was ∙ c.take_all.ensures.value (fresh_page lent) fresh) in
+    let taken = c.take_all-2.ensures in
+    let bytes = ap (λ (p : Page). p.bytes) (taken.after (fresh_page lent) w.0 c.new-2.ensures.page_is w.1) in
+    let name = taken.lent_stays ∙ ap ghost_name c.new-2.ensures.buffer in
+    rw w.1 (grind arith)

@@ -1,8 +1,0 @@
-use Rattle.std.proofs.Common.{refl}
-use lib.Ieee.{of_bits, round}
-use Rattle.losses.specs.Loss.{fixed_roof_kg}
-use Rattle.losses.proofs.loss.fixed_roof_kg.Goals as goal
-
-pub returns : goal.returns
-unfolding fixed_roof_kg of_bits round
-returns c = refl

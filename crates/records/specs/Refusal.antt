@@ -1,0 +1,13 @@
+-- Why a record isn't taken, by number.
+use Rattle.std.specs.Prelude.{ℕ}
+use Rattle.amounts.specs.Decline as decline
+use Rattle.records.specs.declared.refusal.Refusal.{Refusal}
+use Rattle.records.specs.declared.refusal.Refusal.TheVariants.{Declined, Malformed}
+
+-- the number that stands for a malformed record; no decline has it
+abbrev pub malformed_number : ℕ
+malformed_number = 255
+
+abbrev pub number : Refusal → ℕ
+number (Declined d) = decline.number d
+number Malformed = malformed_number

@@ -1,0 +1,34 @@
+// Why a record isn't taken.
+ghost use Rattle.std.specs.Prelude.{◌≡◌};
+ghost use Rattle.records.specs.Refusal.{number};
+ghost use Rattle.records.specs.declared.refusal.Refusal.TheVariants.{Declined};
+
+use amounts::decline::Decline;
+
+#[derive(Clone, Copy, Debug, PartialEq, Eq)]
+pub enum Refusal {
+    Declined(Decline),
+
+    // Cut short, or of another tag.
+    Malformed,
+}
+
+impl From<Decline> for Refusal {
+    ghost from_gives = { λ decline refusal. refusal ≡ Declined decline };
+
+    fn from(decline: Decline) -> Refusal {
+        Refusal::Declined(decline)
+    }
+}
+
+impl Refusal {
+    // The decline's number, or 255.
+    pub fn number(self) -> u8
+        ensures { result ≡ number self }
+    {
+        match self {
+            Refusal::Declined(decline) => decline.number(),
+            Refusal::Malformed => 255,
+        }
+    }
+}

@@ -1,7 +1,0 @@
-use Rattle.report.proofs.fate.to_public_water.Goals as goal
-
-pub returns-then-sewer : goal.returns-then-sewer
-returns-then-sewer c = rw c.if-sewer.true
-
-pub returns-else-sewer : goal.returns-else-sewer
-returns-else-sewer c = rw c.if-sewer.false
