@@ -1,5 +1,5 @@
 -- Why a call is declined (document 01, "Why a call is declined, in checking order"), and the table of checks that finds it.
-use Rattle.std.specs.Prelude.{ℕ, Bool, true, false, List, [], ◌∷◌, Result, Ok, Err}
+use Rattle.std.specs.Prelude.{ℕ, Bool, true, false, List, [], ◌∷◌, Result, Ok, Err, is_ok}
 use Rattle.amounts.specs.declared.decline.Decline.{Decline}
 use Rattle.amounts.specs.declared.decline.Decline.TheVariants.{NotABlock, CheckSum, NotNext, OutOfTurn, Closed, Layout, OutOfRange, NoRow, Excess, Full, Short, NoSubstance, NoRoom, StockCount}
 
@@ -45,24 +45,23 @@ pub data Check : Type 0 where
 -- the first check that fails declines; where none fails, the value is taken
 unfoldable pub checked : {A : Type 0} → List Check → A → Answer A
 checked [] a = Ok a
-checked (check true n ∷ rows) a = checked rows a
-checked (check false n ∷ rows) a = Err n
+checked (check true d ∷ rows) a = checked rows a
+checked (check false d ∷ rows) a = Err d
 
 -- what follows where an answer is taken; a decline stands
 abbrev pub on_taken : {A B : Type 0} → Answer A → (A → Answer B) → Answer B
 on_taken (Ok a) next = next a
-on_taken (Err n) next = Err n
+on_taken (Err d) next = Err d
 
 abbrev pub is_taken : {A : Type 0} → Answer A → Bool
-is_taken (Ok a) = true
-is_taken (Err n) = false
+is_taken = is_ok
 
 -- the value of an answer that is taken, and else the one given
-abbrev pub value_or : {A : Type 0} → A → Answer A → A
+abbrev pub value_or : {A E : Type 0} → A → Result A E → A
 value_or other (Ok a) = a
-value_or other (Err n) = other
+value_or other (Err e) = other
 
 -- an answer without its value
-abbrev pub verdict_of : {A : Type 0} → Answer A → Answer Unit
+abbrev pub verdict_of : {A E : Type 0} → Result A E → Result Unit E
 verdict_of (Ok a) = Ok tt
-verdict_of (Err n) = Err n
+verdict_of (Err e) = Err e

@@ -1,9 +1,14 @@
 -- The treatment split (document 01, "Treatment and report").
-use Rattle.std.specs.Prelude.{ℕ, ◌-◌, ◌*◌, ◌/◌, ◌^◌, [], ◌∷◌}
+use Rattle.std.specs.Prelude.{ℕ, Bool, ◌&&◌, ◌-◌, ◌*◌, ◌/◌, ◌^◌, [], ◌∷◌}
 use Rattle.amounts.specs.Content.{is_ppm}
 use Rattle.amounts.specs.Decline.{Answer, check, checked}
 use Rattle.amounts.specs.declared.decline.Decline.TheVariants.{Layout}
 use Rattle.amounts.specs.declared.treatment.Parts.{Parts}
+use Rattle.amounts.specs.declared.treatment.Rate.{Rate}
+
+-- rates are "to 1,000,000"
+abbrev pub is_rate : Rate → Bool
+is_rate r = is_ppm r.removal && is_ppm r.destruction
 
 -- "a × r / 10^6 rounded down"
 abbrev pub share_of : ℕ → ℕ → ℕ

@@ -2,6 +2,8 @@
 ghost use Rattle.std.specs.Prelude.{◌≡◌, cond, Ok, Err};
 ghost use Rattle.amounts.specs.Decline.{number};
 
+use std::fmt;
+
 // By document 01's numbers.
 #[derive(Clone, Copy, Debug, PartialEq, Eq)]
 pub enum Decline {
@@ -53,6 +55,18 @@ impl Decline {
         ensures { result ≡ number self }
     {
         self as u8
+    }
+}
+
+// As the papers write it: by its number.
+impl fmt::Display for Decline {
+    ghost use Rattle.std.specs.Fmt.{decimal};
+    ghost use Rattle.std.specs.Prelude.{Some};
+
+    ghost output = { λ d. Some (decimal (number d)) };
+
+    fn fmt<W: fmt::Write>(&self, f: &mut fmt::Formatter<W>) -> fmt::Result {
+        write!(f, "{}", self.number())
     }
 }
 

@@ -3,7 +3,7 @@ ghost use Rattle.std.specs.Prelude.{◌≡◌};
 ghost use Rattle.amounts.specs.Filed.{case_of, step_of, filed_of};
 
 // A case of rounding: its number, from 0, and its step in micrograms.
-#[derive(Clone, Copy)]
+#[derive(Clone, Copy, Debug, PartialEq, Eq)]
 pub struct Case {
     pub number: u8,
     pub step: u64,

@@ -1,4 +1,4 @@
-// Amounts: counted contents, thresholds, treatment, filed figures and the numbers of declines.
+// Amounts: counted contents, thresholds, treatment, filed figures and the declines.
 #![tactic(auto)]
 
 pub mod class;

@@ -2,24 +2,26 @@
 ghost use Rattle.std.specs.Prelude.{◌≡◌};
 ghost use Rattle.amounts.specs.Threshold.{due_from, due_of};
 
-use crate::class;
-use crate::decline::{Decline, check};
+use crate::class::Class;
+use crate::decline::Decline;
 
-fn due_from(class: u8) -> u64
-    ensures { result ≡ due_from class }
-{
-    if class == 1 {
-        1_000_000_000_000
-    } else {
-        500_000_000_000
+impl Class {
+    // In micrograms.
+    #[inline(always)]
+    fn due_from(self) -> u64
+        ensures { result ≡ due_from self }
+    {
+        match self {
+            Class::One => 1_000_000_000_000,
+            Class::SpecificOne => 500_000_000_000,
+        }
     }
 }
 
-// Whether a substance of the class is due at an amount handled, in micrograms.
-#[tactic(auto, unfolding(crate::specs::Threshold::due_of, crate::specs::Decline::checked))]
+// Whether a substance of the class, by its number, as a host and a set-up have it, is due at an amount handled, in micrograms.
+#[tactic(auto, unfolding(crate::specs::Threshold::due_of))]
 pub fn is_due(class: u8, handled: u64) -> Result<bool, Decline>
     ensures { result ≡ due_of class handled }
 {
-    check(class::is_class(class), Decline::Layout)?;
-    Ok(due_from(class) <= handled)
+    Ok(Class::try_from(class)?.due_from() <= handled)
 }

@@ -14,21 +14,15 @@ parts_to (suc n) s = cond (eqb (length s) 0) [] (take 512 s ∷ parts_to n (drop
 abbrev pub parts_in : List ℕ → List (List ℕ)
 parts_in s = parts_to (length s) s
 
--- the book after the last block, or the first decline: the block's place from 0, and why
-pub data Outcome : Type 0 where
-  read : Book → Outcome
-  refused : ℕ → Decline → Outcome
+-- a journal's book, or the first decline: the block's place from 0, and why
+abbrev pub refused : ℕ → Decline → Refused
+refused place d = record { place = place; decline = d }
 
-abbrev pub onward : Answer Book → ℕ → (Book → Outcome) → Outcome
+abbrev pub onward : Answer Book → ℕ → (Book → Result Book Refused) → Result Book Refused
 onward (Ok c) place next = next c
-onward (Err n) place next = refused place n
+onward (Err d) place next = Err (refused place d)
 
 -- "At the first decline it stops"
-unfoldable pub read_all : Book → ℕ → List (List ℕ) → Outcome
-read_all b place [] = read b
+unfoldable pub read_all : Book → ℕ → List (List ℕ) → Result Book Refused
+read_all b place [] = Ok b
 read_all b place (s ∷ rest) = onward (block_on b s) place (λ c. read_all c (suc place) rest)
-
--- what the code returns for an outcome; a journal that is refused leaves no book
-abbrev pub ended : Outcome → Result Book Refused
-ended (read b) = Ok b
-ended (refused place n) = Err (record { place = place; decline = n })

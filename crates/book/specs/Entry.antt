@@ -1,5 +1,6 @@
 -- What a move does to a year (document 01, "Posts", "Treatment and report", and decline 11; document 02, (b)), by its cases.
 use Rattle.std.specs.Prelude.{ℕ, ◌+◌, ◌-◌, Bool, true, cond, List, eqb, leb, get_or, set}
+use Rattle.plant.specs.declared.setup.Pair.{Pair}
 use Rattle.plant.specs.declared.setup.Setup.{Setup}
 use Rattle.kinds.specs.declared.account.Account.TheVariants.{Held}
 use Rattle.post.specs.Moves.{closes}
@@ -26,12 +27,12 @@ store_after store Close = store
 
 -- "the stage's holding of each substance grows by g times counted content"; "The holding grows"; "The holding falls by g times content, which is added under that
 -- name", "by the loss, which goes to air untreated"; found "goes to off site in the same step"; "Each holding moves to gas or waste water, by that pair's side"
-abbrev pub sums_after : List ℕ → List Bool → List ℕ → Move → List ℕ
-sums_after counted to_water sums (Received m g) = sums
-sums_after counted to_water sums (Issued m stage g) = raised (cell_of Held stage) (brings counted m g) sums 8
-sums_after counted to_water sums (Brought account stage s n) = added sums (cell_of account stage s) n
-sums_after counted to_water sums (Gone account stage s n) = moved sums (cell_of Held stage s) (cell_of account stage s) n
-sums_after counted to_water sums Close = settled sums to_water 64
+abbrev pub sums_after : List ℕ → List Pair → List ℕ → Move → List ℕ
+sums_after counted pairs sums (Received m g) = sums
+sums_after counted pairs sums (Issued m stage g) = raised (cell_of Held stage) (brings counted m g) sums 8
+sums_after counted pairs sums (Brought account stage s n) = added sums (cell_of account stage s) n
+sums_after counted pairs sums (Gone account stage s n) = moved sums (cell_of Held stage s) (cell_of account stage s) n
+sums_after counted pairs sums Close = settled sums pairs 64
 
 -- "Handled is issued plus formed", and found "counts as handled"
 abbrev pub handled_after : List ℕ → List ℕ → Move → List ℕ
@@ -46,7 +47,7 @@ abbrev pub year_after : Setup → Year → Move → Year
 year_after u y m =
     record {
       store = store_after y.store m;
-      sums = sums_after u.counted u.to_water y.sums m;
+      sums = sums_after u.counted u.pairs y.sums m;
       handled = handled_after u.counted y.handled m;
       posts = y.posts + 1;
       closed = closes m;

@@ -1,9 +1,11 @@
 -- The ledger: one sum in micrograms for each account, stage and substance.
-use Rattle.std.specs.Prelude.{ℕ, zero, suc, ◌+◌, ◌-◌, ◌*◌, Bool, false, List, get_or, set}
+use Rattle.std.specs.Prelude.{ℕ, zero, suc, ◌+◌, ◌-◌, ◌*◌, List, get_or, set}
 use Rattle.encoding.specs.Each.{sum_to, put_to}
 use Rattle.kinds.specs.Account.{place, closes_to}
 use Rattle.kinds.specs.declared.account.Account.{Account}
 use Rattle.kinds.specs.declared.account.Account.TheVariants.{Held}
+use Rattle.plant.specs.Setup.{no_pair}
+use Rattle.plant.specs.declared.setup.Pair.{Pair}
 
 -- the place of a sum: by its account's place and its pair, and by account, stage and substance
 abbrev pub at : ℕ → ℕ → ℕ
@@ -37,9 +39,9 @@ abbrev pub brings : List ℕ → ℕ → ℕ → ℕ → ℕ
 brings counted m g s = g * get_or counted (m * 8 + s) 0
 
 -- the holdings of the pairs 0 .. k - 1 closed
-unfoldable pub settled : List ℕ → List Bool → ℕ → List ℕ
+unfoldable pub settled : List ℕ → List Pair → ℕ → List ℕ
 unfolding closes_to
-settled sums to_water zero = sums
-settled sums to_water (suc k) =
-    let before = settled sums to_water k in
-    moved before (at (place Held) k) (at (place (closes_to (get_or to_water k false))) k) (get_or before (at (place Held) k) 0)
+settled sums pairs zero = sums
+settled sums pairs (suc k) =
+    let before = settled sums pairs k in
+    moved before (at (place Held) k) (at (place (closes_to (get_or pairs k no_pair).to_water)) k) (get_or before (at (place Held) k) 0)

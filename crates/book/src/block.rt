@@ -1,23 +1,54 @@
-// A set-up block's part of a set-up.
-ghost use Rattle.std.specs.Prelude.{◌≡◌};
-ghost use Rattle.book.specs.Block.{setup_by};
+// A block on a book.
+ghost use Rattle.std.specs.Prelude.{◌≡◌, OnOk, OnErr};
+ghost use Rattle.amounts.specs.Decline.{value_or, verdict_of};
+ghost use Rattle.book.specs.Block.{setup_by, block_on};
 
+use crate::site::Book;
 use amounts::decline::Decline;
-use layout::holds::SetupPart;
+use layout::frame::read_frame;
+use layout::holds::{Holds, SetupPart};
 use plant::setup::Setup;
-use plant::{setup, stage};
 
-// A set-up with a part more.
-pub(crate) fn set_up_by(
-    u: &Setup,
-    part: SetupPart,
-    count: u8,
-    body: &[u8],
-) -> Result<Setup, Decline>
-    ensures { result ≡ setup_by u.now part count body.now }
+// A part of the set-up more: a match on what a block holds, of which there are two kinds.
+fn add_part(setup: &mut Setup, part: SetupPart, count: u8, body: &[u8]) -> Result<(), Decline>
+    ensures verdict { result ≡ verdict_of (setup_by setup.old part count body.now) }
+    ensures setup_after { setup.new ≡ value_or setup.old (setup_by setup.old part count body.now) }
 {
     match part {
-        SetupPart::Materials => setup::set_up(u, count, body),
-        SetupPart::Stage => stage::describe(u, count, body),
+        SetupPart::Materials => setup.set_up(count, body),
+        SetupPart::Stage => setup.describe(count, body),
+    }
+}
+
+impl Book {
+    // One block of any bytes, in place: a decline leaves the posts before it.
+    #[tactic(auto, unfolding(crate::specs::Block::block_on))]
+    pub(crate) fn enter_block(&mut self, s: &[u8]) -> Result<(), Decline>
+        ensures verdict { result ≡ verdict_of (block_on self.old s.now) }
+        ensures taken { OnOk result (block_on self.old s.now ≡ Ok self.new) }
+        ensures kept { OnErr result ((self.new.setup ≡ self.old.setup) × (self.new.blocks ≡ self.old.blocks)) }
+    {
+        let held = read_frame(self.blocks, s)?;
+        let count = s[5];
+        let body = &s[8..508];
+        match held {
+            Holds::SetUp(part) => add_part(&mut self.setup, part, count, body)?,
+            Holds::Posts => self.take_posts(count, body)?,
+        }
+        self.blocks += 1;
+        Ok(())
+    }
+
+    // One block of any bytes.
+    pub fn take_block(&mut self, s: &[u8]) -> Result<(), Decline>
+        ensures verdict { result ≡ verdict_of (block_on self.old s.now) }
+        ensures book { self.new ≡ value_or self.old (block_on self.old s.now) }
+    {
+        let year = self.year;
+        let answer = self.enter_block(s);
+        if answer.is_err() {
+            self.year = year;
+        }
+        answer
     }
 }

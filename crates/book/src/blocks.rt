@@ -1,7 +1,7 @@
 // A whole journal on a fresh book.
 ghost use Rattle.std.specs.Prelude.{◌≡◌};
 ghost use Rattle.book.specs.Site.{fresh_book};
-ghost use Rattle.book.specs.Blocks.{parts_in, read_all, ended};
+ghost use Rattle.book.specs.Blocks.{parts_in, read_all};
 
 use crate::site::Book;
 use amounts::decline::Decline;
@@ -15,12 +15,12 @@ pub struct Refused {
 
 // The book after the blocks of a journal, or the first that is declined. No block copies the book.
 pub fn take_blocks(journal: &[u8]) -> Result<Book, Refused>
-    ensures { result ≡ ended (read_all fresh_book 0 (parts_in journal.now)) }
+    ensures { result ≡ read_all fresh_book 0 (parts_in journal.now) }
 {
     let mut book = Book::new();
     for part in journal.chunks(512) {
         let place = book.block_number();
-        // `map_err` and `?` were tried: the proof isn't told what the closure answers.
+        // With `map_err` and `?` the proof isn't told what the closure answers.
         if let Err(decline) = book.enter_block(part) {
             return Err(Refused { place, decline });
         }

@@ -12,7 +12,6 @@ use crate::site::Year;
 use amounts::decline::{Decline, check};
 use kinds::account::Account;
 use plant::setup::Setup;
-use post::moves;
 use post::moves::Move;
 
 impl Year {
@@ -44,7 +43,7 @@ impl Year {
         ensures { self.new ≡ year_after setup.now self.old m }
     {
         self.posts += 1;
-        self.closed = moves::closes(m);
+        self.closed = m.closes();
         match m {
             Move::Received { material, grams } => self.store[material] += grams,
             Move::Issued {
@@ -82,7 +81,7 @@ impl Year {
                 at(account, stage * 8 + substance),
                 amount,
             ),
-            Move::Close => ledger::settle(&mut self.sums, &setup.to_water),
+            Move::Close => ledger::settle(&mut self.sums, &setup.pairs),
         }
     }
 

@@ -5,6 +5,7 @@ ghost use Rattle.kinds.specs.declared.account.Account.TheVariants.{Held};
 ghost use Rattle.book.specs.Ledger.{at, cell_of, total, moved, raised, brings, settled};
 
 use kinds::account::{Account, closes_to};
+use plant::setup::Pair;
 
 // The place of a sum, by its account and by its pair, stage * 8 + substance.
 pub(crate) fn at(account: Account, pair: usize) -> usize
@@ -48,14 +49,14 @@ pub(crate) fn issue(
 }
 
 // Each holding goes to gas or to waste water, by its pair's side.
-pub(crate) fn settle(sums: &mut [u64; 576], to_water: &[bool; 64])
+pub(crate) fn settle(sums: &mut [u64; 576], pairs: &[Pair; 64])
     requires by_index { (s : ℕ) → s < 8 → total sums.old s < 2 ^ 64 }
     requires sums_len { length sums.old ≡ 576 }
-    ensures { sums.new ≡ settled sums.old to_water.now 64 }
+    ensures { sums.new ≡ settled sums.old pairs.now 64 }
 {
     for pair in 0..64usize {
         let from = at(Account::Held, pair);
-        let to = at(closes_to(to_water[pair]), pair);
+        let to = at(closes_to(pairs[pair].to_water), pair);
         let amount = sums[from];
         shift(sums, from, to, amount);
     }

@@ -3,7 +3,9 @@ use mathlib.Core.Path.{◌≡◌, refl}
 use mathlib.Core.List.{List, [], ◌∷◌, map}
 use Prim.Native.Nat.{ℕ, ◌*◌}
 use native.Mathlib.Omega.{arith}
-use Rattle.std.specs.List.{AllByRecursion}
+use Rattle.std.proofs.lemmas.List.Elements.{All-tail}
+use Rattle.std.proofs.lemmas.List.Sums.{sum_by-cons}
+use Rattle.std.specs.List.{All, AllByRecursion}
 use Rattle.std.specs.Prelude.{Ok}
 use Rattle.amounts.proofs.decline.Laws.{was_taken}
 use Rattle.kinds.specs.declared.account.Account.{Account}
@@ -76,21 +78,18 @@ module _ (f : Move → ℕ) (g : Sort → Post → ℕ) (a : Agrees f g) where
       let here = kinds.found Agreed all_agreed p.kind r k in
       cc (z.2, here.0 numbers p z.0 z.1, here.1)
 
-  pub of_posts_lem : (numbers : List ℕ) (posts : List (List ℕ)) → AllByRecursion (Read numbers) posts → sum_over f (map (said numbers) posts) ≡ sum_posts g posts
-  unfolding sum_over sum_posts
+  pub of_posts_lem : (numbers : List ℕ) (posts : List (List ℕ)) → All (Read numbers) posts → sum_over f (map (said numbers) posts) ≡ sum_posts g posts
   of_posts_lem numbers [] h = refl
-  of_posts_lem numbers (s ∷ posts) h = omega (arith, of_post numbers s h.0, of_posts_lem numbers posts h.1)
+  of_posts_lem numbers (s ∷ posts) h =
+      omega (
+        arith,
+        of_post numbers s (h 0 s (omega arith)),
+        of_posts_lem numbers posts (All-tail (Read numbers) s posts h),
+        sum_by-cons f (said numbers s) (map (said numbers) posts),
+        sum_by-cons (λ s. g (sort_of (post_at s).kind) (post_at s)) s posts,
+      )
 
 -- ---- the sums
-
-entering : (counted : List ℕ) (s : ℕ) → Agrees (enters counted s) (enters_as counted s)
-entering counted s = record { of_stock_lem = λ p. refl; of_issue_lem = λ p. refl; of_formed = λ p. refl; of_found = λ p. refl; of_gone = λ p a n. refl; of_close = λ p. refl }
-
-handling : (counted : List ℕ) (s : ℕ) → Agrees (handles counted s) (handles_as counted s)
-handling counted s = record { of_stock_lem = λ p. refl; of_issue_lem = λ p. refl; of_formed = λ p. refl; of_found = λ p. refl; of_gone = λ p a n. refl; of_close = λ p. refl }
-
-finding : (s : ℕ) → Agrees (brought OffSite s) (found_as s)
-finding s = record { of_stock_lem = λ p. refl; of_issue_lem = λ p. refl; of_formed = λ p. refl; of_found = λ p. refl; of_gone = λ p a n. refl; of_close = λ p. refl }
 
 -- the claim about every list of calls
 pub sums_by_kinds : SumsByKinds
@@ -98,7 +97,7 @@ sums_by_kinds calls s =
     let w : Standing = standing calls in
     let was_read = (tells_run calls).read in
     record {
-      entered = of_posts_lem _ _ (entering (counted_in w) s) (numbers_of w) w.posts was_read;
-      handled = of_posts_lem _ _ (handling (counted_in w) s) (numbers_of w) w.posts was_read;
-      found = of_posts_lem _ _ (finding s) (numbers_of w) w.posts was_read;
+      entered = of_posts_lem (enters (counted_in w) s) (enters_as (counted_in w) s) (search) (numbers_of w) w.posts was_read;
+      handled = of_posts_lem (handles (counted_in w) s) (handles_as (counted_in w) s) (search) (numbers_of w) w.posts was_read;
+      found = of_posts_lem (brought OffSite s) (found_as s) (search) (numbers_of w) w.posts was_read;
     }

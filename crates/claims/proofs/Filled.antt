@@ -1,26 +1,22 @@
 -- A block made of posts that a year takes in turn. Assumes nothing.
 use mathlib.Core.Path.{◌≡◌, refl, ap, ◌∙◌}
-use mathlib.Core.Bool.{Bool, true, false}
+use mathlib.Core.Bool.{true, false}
 use mathlib.Core.List.{List, ◌++◌}
 use Prim.Native.Nat.{ℕ, zero, suc, ◌+◌, ◌-◌, ◌*◌, ◌≤◌, ◌<◌}
 use native.Mathlib.Omega.{arith}
 use lib.ListN.{length, take, drop, replicate, length-drop}
 use lib.Seq.{drop_at, take-append-le, drop-append-le, take_all}
-use Rattle.std.proofs.lemmas.Bool.Decides.{nat_tests}
-use Rattle.std.proofs.lemmas.Grind.{common_steps}
 use Rattle.std.specs.Prelude.{Ok}
 use Rattle.amounts.specs.Decline.{checked}
 use Rattle.amounts.proofs.decline.Laws.{was_taken}
 use Rattle.encoding.specs.Bytes.{padded}
-use Rattle.layout.specs.Frame.{frame_checks, block_of}
+use Rattle.layout.specs.Frame.{frame_checks}
 use Rattle.layout.specs.Outline.{may_post}
 use Rattle.layout.specs.Posts.{post_in, own_checks}
 use Rattle.layout.specs.declared.holds.Holds.TheVariants.{Posts}
-use Rattle.layout.specs.declared.outline.Outline.{Outline}
 use Rattle.plant.specs.declared.setup.Setup.{Setup}
+use Rattle.layout.proofs.Checked.{pass_taken}
 use Rattle.layout.proofs.frame.Laws.{is_held}
-use Rattle.layout.proofs.frame.Made.{held_made, count_made, body_made}
-use Rattle.layout.proofs.holds.Laws.{of_posts_lem}
 use Rattle.post.proofs.moves.Laws.{move_laid}
 use Rattle.book.specs.Block.{block_on}
 use Rattle.book.specs.Posts.{post_on, taken_to, posts_on}
@@ -29,7 +25,7 @@ use Rattle.book.specs.declared.site.Year.{Year}
 use Rattle.book.proofs.block.Laws.{is_framed}
 use Rattle.book.proofs.posts.Laws.{posted, own_taken}
 use Rattle.claims.proofs.written.Accepted.{laid_long}
-use Rattle.claims.proofs.written.Places.{zeros_zero}
+use Rattle.claims.proofs.written.Blocks.{laid, laid_posts, laid_count, laid_body, own_pass}
 
 -- ---- posts in bytes
 
@@ -86,33 +82,18 @@ one_more u y z x l s n e run p =
 
 -- ---- a block of them
 
--- bytes of at most so many with zeros behind them
-pub padded_long : (n : ℕ) (l : List ℕ) → length l ≤ n → length (padded n l) ≡ n
-padded_long n l h = grind (arith, common_steps)
-
-module _ (n : ℕ) (l : List ℕ) (long : length l ≡ n * 48) (some : 1 ≤ n) (few : n ≤ 10) where
-  -- 4 to 6 of the block's own bytes
-  pub own_passes : {A : Type 0} (a : A) (o : Outline) (closed : Bool) → may_post o ≡ true → closed ≡ false
-      → checked (own_checks o closed n (padded 500 l)) a ≡ Ok a
-  unfolding checked
-  own_passes a o closed t c =
-      grind (arith, nat_tests, padded_long 500 l, drop_at l (replicate (500 - length l) 0) (n * 48) long, zeros_zero (500 - length l))
-
+module _ (n : ℕ) (l : List ℕ) (long : length l ≡ n * 48) (some : 1 ≤ n) (few : n ≤ 10) (m : ℕ) (u : Setup) (y z : Year) (run : taken_to u y (post_in l) n ≡ Ok z) where
   -- the posts of the body are those of the bytes
-  posts_of_body : (u : Setup) (y z : Year) → taken_to u y (post_in l) n ≡ Ok z → posts_on u y n (padded 500 l) ≡ Ok z
-  posts_of_body u y z run =
+  posts_of_body : posts_on u y n (padded 500 l) ≡ Ok z
+  posts_of_body =
       let a = run_admits u y z (post_in l) n some run in
-      own_taken u y n (padded 500 l) (own_passes n u.outline y.closed a.0 a.1)
+      own_taken u y n (padded 500 l) (pass_taken (own_checks u.outline y.closed n (padded 500 l)) n (own_pass n l long few u.outline y.closed a.0 a.1 some))
       ∙ rw (same_run u y (post_in (padded 500 l)) (post_in l) n (λ i h. post_front i n l (replicate (500 - length l) 0) h long)) run
 
-  module _ (m : ℕ) where
-    abbrev made : List ℕ
-    made = block_of 3 n m (padded 500 l)
+  abbrev made : List ℕ
+  made = laid n l m
 
-    -- the block, framed as the next, and the book after it
-    pub block_of_posts_lem : (u : Setup) (y z : Year) → checked (frame_checks m made) made ≡ Ok made → taken_to u y (post_in l) n ≡ Ok z
-        → block_on (book_with u y m) made ≡ Ok (book_with u z (m + 1))
-    block_of_posts_lem u y z frame run =
-        let b = book_with u y m in
-        is_framed b made Posts (is_held m made frame ∙ held_made 3 n m (padded 500 l) Posts of_posts_lem)
-        ∙ rw (count_made 3 n m (padded 500 l), body_made 3 n m (padded 500 l) (padded_long 500 l (omega arith)), posts_of_body u y z run)
+  -- the block, framed as the next, and the book after it
+  pub block_of_posts_lem : checked (frame_checks m made) made ≡ Ok made → block_on (book_with u y m) made ≡ Ok (book_with u z (m + 1))
+  block_of_posts_lem frame =
+      is_framed (book_with u y m) made Posts (is_held m made frame ∙ laid_posts n l m) ∙ rw (laid_count n l m, laid_body n l long few m, posts_of_body)

@@ -1,6 +1,6 @@
 -- What a move before the close does to the sums of each stage and substance: a holding grows by what comes to it and falls by what leaves it. Assumes nothing.
 use mathlib.Core.Path.{◌≡◌, refl, ap}
-use mathlib.Core.Bool.{Bool, true, false, true≢false, cond}
+use mathlib.Core.Bool.{true, false, true≢false, cond}
 use mathlib.Core.List.{List}
 use Prim.Native.Nat.{ℕ, ◌+◌, ◌-◌, ◌≤◌, ◌<◌}
 use native.Mathlib.Omega.{arith}
@@ -9,6 +9,7 @@ use lib.Dec.{eqb}
 use lib.ListN.{length}
 use Rattle.std.proofs.lemmas.Bool.Decides.{nat_tests}
 use Rattle.std.proofs.lemmas.Grind.{common_steps}
+use Rattle.plant.specs.declared.setup.Pair.{Pair}
 use Rattle.encoding.specs.Each.{sum_to}
 use Rattle.encoding.proofs.Each.{sum_none, sum_point}
 use Rattle.kinds.specs.Account.{place}
@@ -50,7 +51,7 @@ pub record Flows (counted sums : List ℕ) (m : Move) (next : List ℕ) : Type 0
 none_leaves : sum_to 8 (λ i. 0) ≡ 0
 none_leaves = sum_none 8 (λ i. 0) (λ i h. refl)
 
-module _ (counted : List ℕ) (sides : List Bool) (store sums : List ℕ) (long : length sums ≡ 576) where
+module _ (counted : List ℕ) (pairs : List Pair) (store sums : List ℕ) (long : length sums ≡ 576) where
   issued_at : (m j g k s : ℕ) → j < 8 → k < 8 → s < 8 → sum_at (raised (spot held j) (brings counted m g) sums 8) held k s ≡ sum_at sums held k s + cond (eqb j k) (brings counted m g s) 0
   issued_at m j g k s hj hk hs = grind (arith, nat_tests, raised_held (brings counted m g) sums j hj s hs long, raised_other (brings counted m g) sums j hj held k s hk hs)
 
@@ -65,7 +66,7 @@ module _ (counted : List ℕ) (sides : List Bool) (store sums : List ℕ) (long 
       → sum_at (moved sums (spot held j t) (spot a j t) n) x k s ≡ sum_at sums x k s + only_at a j t x k s n
   moved_to a j t n x k s low high hj ht hx hk hs = grind (arith, nat_tests, common_steps)
 
-  pub flows : (m : Move) → closes m ≡ false → Fits widest m → Named m → is_there store sums m ≡ true → Flows counted sums m (sums_after counted sides sums m)
+  pub flows : (m : Move) → closes m ≡ false → Fits widest m → Named m → is_there store sums m ≡ true → Flows counted sums m (sums_after counted pairs sums m)
   flows (Received m g) c f d t = record { kept = λ k s hk hs. omega (arith, none_leaves); gone = λ a k s low hk hs. omega arith }
   flows (Issued m j g) c f d t =
       record {

@@ -1,16 +1,18 @@
 -- The set-up of a book is what the accepted set-up blocks say. Assumes nothing.
-use mathlib.Core.Path.{◌≡◌, refl, sym, ap, subst, ◌∙◌}
-use mathlib.Core.Bool.{Bool, false}
+use mathlib.Core.Path.{◌≡◌, refl, sym, ap, ◌∙◌}
+use mathlib.Core.Bool.{false}
 use mathlib.Core.List.{List, [], ◌∷◌, ◌++◌}
 use Prim.Native.Nat.{ℕ, ◌+◌, ◌*◌, ◌≤◌, ◌<◌}
 use native.Mathlib.Omega.{arith}
 use Rattle.std.proofs.lemmas.Bool.Decides.{nat_tests}
 use Rattle.std.proofs.lemmas.Grind.{common_steps}
+use Rattle.std.proofs.lemmas.List.Elements.{All-nil, All-tail, All-push, All-weaker}
+use Rattle.std.specs.List.{All}
 use lib.ListN.{length, get_or, drop, set}
 use Rattle.encoding.specs.Each.{put_to}
 use Rattle.amounts.specs.Decline.{value_or}
-use Rattle.plant.specs.Setup.{no_rates, materials_in, numbers_in, classes_in, contents_in, counted_all, setup_of, SoundSetup}
-use Rattle.plant.specs.Stage.{second_of, sewered, landfilled, water_row, rate_row, with_stage}
+use Rattle.plant.specs.Setup.{no_rates, no_pair, no_stage, materials_in, numbers_in, classes_in, contents_in, counted_all, setup_of, SoundSetup}
+use Rattle.plant.specs.Stage.{second_of, stage_of, rate_row, pair_row, with_stage}
 use Rattle.plant.specs.declared.setup.Setup.{Setup}
 use Rattle.encoding.proofs.Each.{put_at, put_other}
 use Rattle.plant.proofs.stage.Laws as stage_laws
@@ -21,21 +23,17 @@ use Rattle.claims.specs.Weighing.{stage_in}
 
 -- ---- the block of a stage
 
--- the blocks name stages below a number
-abbrev pub Below : ℕ → List (List ℕ) → Type 0
-Below n [] = Unit
-Below n (s ∷ blocks) = (count_of s < n) × Below n blocks
+-- it names a stage below a number
+abbrev pub Below : ℕ → List ℕ → Type 0
+Below n s = count_of s < n
 
--- one block more, of the next stage
-below_next : (n : ℕ) (blocks : List (List ℕ)) (x : List ℕ) → count_of x ≡ n → Below n blocks → Below (n + 1) (blocks ++ (x ∷ []))
-below_next n [] x e h = (omega arith, tt)
-below_next n (s ∷ blocks) x e h = (omega (arith, h.0), below_next n blocks x e h.1)
-
--- is the block of that stage
-stage_new : (n : ℕ) (blocks : List (List ℕ)) (x : List ℕ) → count_of x ≡ n → Below n blocks → stage_in n (blocks ++ (x ∷ [])) ≡ body_of x
+-- one block more, of the next stage, is the block of that stage
+stage_new : (n : ℕ) (blocks : List (List ℕ)) (x : List ℕ) → count_of x ≡ n → All (Below n) blocks → stage_in n (blocks ++ (x ∷ [])) ≡ body_of x
 unfolding stage_in
 stage_new n [] x e h = grind (arith, nat_tests)
-stage_new n (s ∷ blocks) x e h = grind (arith, nat_tests, stage_new n blocks x e)
+stage_new n (s ∷ blocks) x e h =
+    let here : count_of s < n = h 0 s (omega arith) in
+    grind (arith, nat_tests, stage_new n blocks x e (All-tail (Below n) s blocks h))
 
 -- and of no other
 stage_old : (n : ℕ) (blocks : List (List ℕ)) (x : List ℕ) → (count_of x ≡ n → ⊥) → stage_in n (blocks ++ (x ∷ [])) ≡ stage_in n blocks
@@ -58,6 +56,12 @@ no_case = refl
 no_row : (s : ℕ) → rate_row (drop 2 []) s ≡ no_rates
 no_row s = sym (stage_laws.no_row (s * 17) [] (omega arith))
 
+no_stage_row : stage_of [] ≡ no_stage
+no_stage_row = rw no_case
+
+no_pair_row : (s : ℕ) → pair_row (drop 2 []) s ≡ no_pair
+no_pair_row s = rw (no_case, no_row s)
+
 -- ---- a set-up by the bytes of its blocks
 
 pub record SetBy (t : List ℕ) (stages : List (List ℕ)) (u : Setup) : Type 0 where
@@ -67,11 +71,9 @@ pub record SetBy (t : List ℕ) (stages : List (List ℕ)) (u : Setup) : Type 0 
   pub numbers : u.numbers ≡ numbers_in (body_of t)
   pub classes : u.classes ≡ classes_in (body_of t)
   pub counted : u.counted ≡ counted_all (classes_in (body_of t)) (contents_in (body_of t))
-  pub below : Below u.outline.described stages
-  pub water : (k : ℕ) → k < 8 → get_or u.to_sewer k false ≡ sewered (stage_in k stages)
-  pub residue : (k : ℕ) → k < 8 → get_or u.to_landfill k false ≡ landfilled (stage_in k stages)
-  pub sides : (k s : ℕ) → k < 8 → s < u.outline.substances → get_or u.to_water (k * 8 + s) false ≡ water_row (drop 2 (stage_in k stages)) s
-  pub rates : (k s : ℕ) → k < 8 → s < u.outline.substances → get_or u.rates (k * 8 + s) no_rates ≡ rate_row (drop 2 (stage_in k stages)) s
+  pub below : All (Below u.outline.described) stages
+  pub goes : (k : ℕ) → k < 8 → get_or u.stages k no_stage ≡ stage_of (stage_in k stages)
+  pub pairs : (k s : ℕ) → k < 8 → s < u.outline.substances → get_or u.pairs (k * 8 + s) no_pair ≡ pair_row (drop 2 (stage_in k stages)) s
 
 -- the substances and materials, and no stage yet
 pub set_by : (t : List ℕ) → 1 ≤ count_of t → SetBy t [] (setup_of (count_of t) (body_of t))
@@ -83,11 +85,9 @@ set_by t l =
       numbers = refl;
       classes = refl;
       counted = refl;
-      below = tt;
-      water = λ k h. same_at 8 k false ∙ sym (ap sewered (stage_none k) ∙ no_case);
-      residue = λ k h. same_at 8 k false ∙ sym (ap landfilled (stage_none k) ∙ no_case);
-      sides = λ k s h l. same_at 64 (k * 8 + s) false ∙ sym (ap (λ (x : List ℕ). water_row (drop 2 x) s) (stage_none k) ∙ no_case);
-      rates = λ k s h l. same_at 64 (k * 8 + s) no_rates ∙ sym (ap (λ (x : List ℕ). rate_row (drop 2 x) s) (stage_none k) ∙ no_row s);
+      below = All-nil (Below 0);
+      goes = λ k h. same_at 8 k no_stage ∙ sym (ap stage_of (stage_none k) ∙ no_stage_row);
+      pairs = λ k s h l. same_at 64 (k * 8 + s) no_pair ∙ sym (ap (λ (x : List ℕ). pair_row (drop 2 x) s) (stage_none k) ∙ no_pair_row s);
     }
 
 -- one stage more
@@ -95,10 +95,13 @@ module _ (t x : List ℕ) (stages : List (List ℕ)) (u : Setup) (h : SetBy t st
   few : count_of x < 8
   few = omega (arith, a.next, a.left, w.stages_few)
 
+  newest : stage_in (count_of x) (stages ++ (x ∷ [])) ≡ body_of x
+  newest = stage_new (count_of x) stages x refl (rw a.next h.below)
+
   -- what is written at the stage's place is there, and the other places stand
-  destination : (case : List ℕ → Bool) (l : List Bool) → length l ≡ 8 → ((k : ℕ) → k < 8 → get_or l k false ≡ case (stage_in k stages))
-      → (k : ℕ) → k < 8 → get_or (set l (count_of x) (case (body_of x))) k false ≡ case (stage_in k (stages ++ (x ∷ [])))
-  destination case l long before k hk = grind (arith, common_steps, few, a.next, h.below, before k hk, stage_new k stages x, stage_old k stages x)
+  there : {A : Type 0} (case : List ℕ → A) (l : List A) (d : A) → length l ≡ 8 → ((k : ℕ) → k < 8 → get_or l k d ≡ case (stage_in k stages))
+      → (k : ℕ) → k < 8 → get_or (set l (count_of x) (case (body_of x))) k d ≡ case (stage_in k (stages ++ (x ∷ [])))
+  there case l d long before k hk = grind (arith, common_steps, few, before k hk, newest, stage_old k stages x)
 
   -- and so for the pairs of the stage
   module _ {A : Type 0} (row : List ℕ → ℕ → A) (l : List A) (d : A) (long : length l ≡ 64)
@@ -106,13 +109,13 @@ module _ (t x : List ℕ) (stages : List (List ℕ)) (u : Setup) (h : SetBy t st
     abbrev put : List A
     put = put_to (λ i. count_of x * 8 + i) (row (drop 2 (body_of x))) l u.outline.substances
 
-    pairs : (k s : ℕ) → k < 8 → s < u.outline.substances → get_or put (k * 8 + s) d ≡ row (drop 2 (stage_in k (stages ++ (x ∷ [])))) s
-    pairs k s hk hs =
+    all_there : (k s : ℕ) → k < 8 → s < u.outline.substances → get_or put (k * 8 + s) d ≡ row (drop 2 (stage_in k (stages ++ (x ∷ [])))) s
+    all_there k s hk hs =
         let small = w.substances_few in
         let place : ℕ → ℕ = λ i. count_of x * 8 + i in
-        let there = put_at place (row (drop 2 (body_of x))) l u.outline.substances s d (λ i j q. omega arith) hs in
+        let written = put_at place (row (drop 2 (body_of x))) l u.outline.substances s d (λ i j q. omega arith) hs in
         let elsewhere = put_other place (row (drop 2 (body_of x))) l u.outline.substances (k * 8 + s) d in
-        grind (arith, a.next, h.below, before k s hk hs, there, elsewhere, stage_new k stages x, stage_old k stages x)
+        grind (arith, before k s hk hs, written, elsewhere, newest, stage_old k stages x)
 
   pub set_next : SetBy t (stages ++ (x ∷ [])) (with_stage u (count_of x) (body_of x))
   set_next =
@@ -123,9 +126,9 @@ module _ (t x : List ℕ) (stages : List (List ℕ)) (u : Setup) (h : SetBy t st
         numbers = h.numbers;
         classes = h.classes;
         counted = h.counted;
-        below = below_next (count_of x) stages x refl (subst (λ (n : ℕ). Below n stages) (sym a.next) h.below);
-        water = destination sewered u.to_sewer w.sewer_long h.water;
-        residue = destination landfilled u.to_landfill w.landfill_long h.residue;
-        sides = pairs water_row u.to_water false w.sides_long h.sides;
-        rates = pairs rate_row u.rates no_rates w.rates_long h.rates;
+        below =
+            All-push (Below (count_of x + 1)) stages x
+            (All-weaker (Below u.outline.described) (Below (count_of x + 1)) (λ s l. omega (arith, a.next)) stages h.below) (omega arith);
+        goes = there stage_of u.stages no_stage w.stages_long h.goes;
+        pairs = all_there pair_row u.pairs no_pair w.pairs_long h.pairs;
       }

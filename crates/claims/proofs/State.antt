@@ -6,6 +6,9 @@ use Prim.Native.Nat.{ℕ, ◌+◌, ◌-◌, ◌*◌, ◌≤◌, ◌<◌}
 use native.Mathlib.Omega.{arith}
 use lib.Dec.{eqb}
 use lib.ListN.{length, get_or}
+use Rattle.std.proofs.lemmas.List.Sums.{sum_by_push}
+use Rattle.plant.specs.declared.setup.Pair.{Pair}
+use Rattle.plant.specs.Setup.{no_pair}
 use Rattle.encoding.specs.Each.{sum_to}
 use Rattle.encoding.proofs.Each.{sum_none}
 use Rattle.kinds.specs.Account.{place}
@@ -25,7 +28,6 @@ use Rattle.book.proofs.ledger.Cells.{emptied, closed_to}
 use Rattle.claims.specs.Standing.{sum_over}
 use Rattle.claims.specs.Weighing.{issues_to, brings_to, goes_to, any_closes}
 use Rattle.claims.proofs.Flows.{Flows, flows}
-use Rattle.claims.proofs.Sums.{sum_nil, sum_last}
 
 -- ---- what moves say of a stage and a substance
 
@@ -45,33 +47,28 @@ pub record Open (counted : List ℕ) (ms : List Move) (sums : List ℕ) : Type 0
   pub gone : (a : Account) (k s : ℕ) → 1 ≤ place a → k < 8 → s < 8 → cell sums a k s ≡ under_sum counted ms a k s
 
 -- after it the holding has gone to the account of the pair's side
-pub record Shut (counted : List ℕ) (sides : List Bool) (ms : List Move) (sums : List ℕ) : Type 0 where
+pub record Shut (counted : List ℕ) (pairs : List Pair) (ms : List Move) (sums : List ℕ) : Type 0 where
   pub enough : (k s : ℕ) → k < 8 → s < 8 → left_sum counted ms k s ≤ came_sum counted ms k s
   pub none_held : (k s : ℕ) → k < 8 → s < 8 → cell sums Held k s ≡ 0
   pub gone : (a : Account) (k s : ℕ) → 1 ≤ place a → k < 8 → s < 8
-      → cell sums a k s ≡ under_sum counted ms a k s + cond (eqb (place a) (closing (get_or sides (k * 8 + s) false))) (came_sum counted ms k s - left_sum counted ms k s) 0
+      → cell sums a k s ≡ under_sum counted ms a k s + cond (eqb (place a) (closing (get_or pairs (k * 8 + s) no_pair).to_water)) (came_sum counted ms k s - left_sum counted ms k s) 0
 
-pub data State (counted : List ℕ) (sides : List Bool) (ms : List Move) (sums : List ℕ) (closed : Bool) : Type 0 where
-  still_open : closed ≡ false → any_closes ms ≡ false → Open counted ms sums → State counted sides ms sums closed
-  shut : closed ≡ true → any_closes ms ≡ true → Shut counted sides ms sums → State counted sides ms sums closed
+pub data State (counted : List ℕ) (pairs : List Pair) (ms : List Move) (sums : List ℕ) (closed : Bool) : Type 0 where
+  still_open : closed ≡ false → any_closes ms ≡ false → Open counted ms sums → State counted pairs ms sums closed
+  shut : closed ≡ true → any_closes ms ≡ true → Shut counted pairs ms sums → State counted pairs ms sums closed
 
 -- ---- no move yet
 
-pub state_none : (counted : List ℕ) (sides : List Bool) (sums : List ℕ) (closed : Bool) → closed ≡ false
-    → ((a : Account) (k s : ℕ) → k < 8 → s < 8 → cell sums a k s ≡ 0) → State counted sides [] sums closed
+pub state_none : (counted : List ℕ) (pairs : List Pair) (sums : List ℕ) (closed : Bool) → closed ≡ false
+    → ((a : Account) (k s : ℕ) → k < 8 → s < 8 → cell sums a k s ≡ 0) → State counted pairs [] sums closed
 unfolding any_closes
-state_none counted sides sums closed o none =
+state_none counted pairs sums closed o none =
     still_open o refl
-    (record {
-      kept = λ k s hk hs.
-          omega (arith, none Held k s hk hs, sum_nil (λ m. sum_to 8 (λ i. goes_to (1 + i) k s m)), sum_nil (λ m. issues_to counted k s m + brings_to Held k s m));
-      gone = λ a k s low hk hs. omega (arith, none a k s hk hs, sum_nil (λ m. goes_to (place a) k s m + brings_to a k s m));
-    })
+    (record { kept = λ k s hk hs. omega (arith, none Held k s hk hs); gone = λ a k s low hk hs. none a k s hk hs })
 
-pub none_open : (counted : List ℕ) (sides : List Bool) (sums : List ℕ) (ms : List Move) (closed : Bool) → ms ≡ [] → State counted sides ms sums closed → closed ≡ false
+pub none_open : (counted : List ℕ) (pairs : List Pair) (sums : List ℕ) (ms : List Move) (closed : Bool) → ms ≡ [] → State counted pairs ms sums closed → closed ≡ false
 unfolding any_closes
-none_open counted sides sums ms closed e (still_open o q f) = o
-none_open counted sides sums ms closed e (shut o q f) = absurd (true≢false (sym (ap any_closes (sym e) ∙ q)))
+none_open counted pairs sums ms closed e t = grind arith
 
 -- ---- one move more
 
@@ -81,60 +78,50 @@ unfolding any_closes
 closes_last [] m h = grind arith
 closes_last (x ∷ ms) m h = grind (arith, closes_last ms m)
 
-module _ (counted : List ℕ) (ms : List Move) (m : Move) (k s : ℕ) where
-  came_last : came_sum counted (ms ++ (m ∷ [])) k s ≡ came_sum counted ms k s + (issues_to counted k s m + brings_to Held k s m)
-  came_last = sum_last (λ x. issues_to counted k s x + brings_to Held k s x) ms m
-
-  left_last : left_sum counted (ms ++ (m ∷ [])) k s ≡ left_sum counted ms k s + sum_to 8 (λ i. goes_to (1 + i) k s m)
-  left_last = sum_last (λ x. sum_to 8 (λ i. goes_to (1 + i) k s x)) ms m
-
-  under_last : (a : Account) → under_sum counted (ms ++ (m ∷ [])) a k s ≡ under_sum counted ms a k s + (goes_to (place a) k s m + brings_to a k s m)
-  under_last a = sum_last (λ x. goes_to (place a) k s x + brings_to a k s x) ms m
-
 -- a move before the close
 open_next : (counted sums next : List ℕ) (ms : List Move) (m : Move) → Open counted ms sums → Flows counted sums m next → Open counted (ms ++ (m ∷ [])) next
 open_next counted sums next ms m o f =
     record {
-      kept = λ k s hk hs. omega (arith, o.kept k s hk hs, f.kept k s hk hs, came_last counted ms m k s, left_last counted ms m k s);
-      gone = λ a k s low hk hs. omega (arith, o.gone a k s low hk hs, f.gone a k s low hk hs, under_last counted ms m k s a);
+      kept = λ k s hk hs. omega (arith, o.kept k s hk hs, f.kept k s hk hs, sum_by_push {X = Move});
+      gone = λ a k s low hk hs. omega (arith, o.gone a k s low hk hs, f.gone a k s low hk hs, sum_by_push {X = Move});
     }
 
 -- the close brings and takes nothing under a name
-shut_next : (counted : List ℕ) (sides : List Bool) (sums : List ℕ) (ms : List Move) → length sums ≡ 576 → Open counted ms sums
-    → Shut counted sides (ms ++ (Close ∷ [])) (sums_after counted sides sums Close)
-shut_next counted sides sums ms long o =
+shut_next : (counted : List ℕ) (pairs : List Pair) (sums : List ℕ) (ms : List Move) → length sums ≡ 576 → Open counted ms sums
+    → Shut counted pairs (ms ++ (Close ∷ [])) (sums_after counted pairs sums Close)
+shut_next counted pairs sums ms long o =
     record {
       enough = λ k s hk hs. omega (arith, came_same k s, left_same k s, o.kept k s hk hs);
-      none_held = emptied sums sides long;
+      none_held = emptied sums pairs long;
       gone = λ a k s low hk hs.
-          let to : Bool = eqb (place a) (closing (get_or sides (k * 8 + s) false)) in
+          let to : Bool = eqb (place a) (closing (get_or pairs (k * 8 + s) no_pair).to_water) in
           let was : cell sums Held k s ≡ came_sum counted (ms ++ (Close ∷ [])) k s - left_sum counted (ms ++ (Close ∷ [])) k s =
           omega (arith, came_same k s, left_same k s, o.kept k s hk hs) in
-          omega (arith, closed_to sums sides long (place a) k s low (place_few a) hk hs, o.gone a k s low hk hs, under_last counted ms Close k s a, ap (λ (n : ℕ). cond to n 0) was);
+          omega (arith, closed_to sums pairs long (place a) k s low (place_few a) hk hs, o.gone a k s low hk hs, sum_by_push {X = Move}, ap (λ (n : ℕ). cond to n 0) was);
     }
   where
     came_same : (k s : ℕ) → came_sum counted (ms ++ (Close ∷ [])) k s ≡ came_sum counted ms k s
-    came_same k s = omega (arith, came_last counted ms Close k s)
+    came_same k s = omega (arith, sum_by_push {X = Move})
 
     left_same : (k s : ℕ) → left_sum counted (ms ++ (Close ∷ [])) k s ≡ left_sum counted ms k s
-    left_same k s = omega (arith, left_last counted ms Close k s, sum_none 8 (λ i. goes_to (1 + i) k s Close) (λ i h. refl))
+    left_same k s = omega (arith, sum_by_push {X = Move}, sum_none 8 (λ i. goes_to (1 + i) k s Close) (λ i h. refl))
 
-module _ (counted : List ℕ) (sides : List Bool) (store sums : List ℕ) (ms : List Move) (long : length sums ≡ 576) (o : Open counted ms sums) (q : any_closes ms ≡ false) where
+module _ (counted : List ℕ) (pairs : List Pair) (store sums : List ℕ) (ms : List Move) (long : length sums ≡ 576) (o : Open counted ms sums) (q : any_closes ms ≡ false) where
   abbrev next : Move → List ℕ
-  next m = sums_after counted sides sums m
+  next m = sums_after counted pairs sums m
 
-  before_close_lem : (m : Move) → closes m ≡ false → Fits widest m → Named m → is_there store sums m ≡ true → State counted sides (ms ++ (m ∷ [])) (next m) (closes m)
-  before_close_lem m c f d t = still_open c (closes_last ms m q ∙ c) (open_next counted sums (next m) ms m o (flows counted sides store sums long m c f d t))
+  before_close_lem : (m : Move) → closes m ≡ false → Fits widest m → Named m → is_there store sums m ≡ true → State counted pairs (ms ++ (m ∷ [])) (next m) (closes m)
+  before_close_lem m c f d t = still_open c (closes_last ms m q ∙ c) (open_next counted sums (next m) ms m o (flows counted pairs store sums long m c f d t))
 
-  by_move : (m : Move) → Fits widest m → Named m → is_there store sums m ≡ true → State counted sides (ms ++ (m ∷ [])) (next m) (closes m)
+  by_move : (m : Move) → Fits widest m → Named m → is_there store sums m ≡ true → State counted pairs (ms ++ (m ∷ [])) (next m) (closes m)
   by_move (Received m g) f d t = before_close_lem (Received m g) refl f d t
   by_move (Issued m k g) f d t = before_close_lem (Issued m k g) refl f d t
   by_move (Brought a k s n) f d t = before_close_lem (Brought a k s n) refl f d t
   by_move (Gone a k s n) f d t = before_close_lem (Gone a k s n) refl f d t
-  by_move Close f d t = shut refl (closes_last ms Close q) (shut_next counted sides sums ms long o)
+  by_move Close f d t = shut refl (closes_last ms Close q) (shut_next counted pairs sums ms long o)
 
-pub state_next : (counted : List ℕ) (sides : List Bool) (store sums : List ℕ) (ms : List Move) (closed : Bool) (m : Move) → length sums ≡ 576 → closed ≡ false
+pub state_next : (counted : List ℕ) (pairs : List Pair) (store sums : List ℕ) (ms : List Move) (closed : Bool) (m : Move) → length sums ≡ 576 → closed ≡ false
     → Fits widest m → Named m → is_there store sums m ≡ true
-    → State counted sides ms sums closed → State counted sides (ms ++ (m ∷ [])) (sums_after counted sides sums m) (closes m)
-state_next counted sides store sums ms closed m long is_open f d t (still_open e q o) = by_move counted sides store sums ms long o q m f d t
-state_next counted sides store sums ms closed m long is_open f d t (shut e q o) = absurd (true≢false (sym e ∙ is_open))
+    → State counted pairs ms sums closed → State counted pairs (ms ++ (m ∷ [])) (sums_after counted pairs sums m) (closes m)
+state_next counted pairs store sums ms closed m long is_open f d t (still_open e q o) = by_move counted pairs store sums ms long o q m f d t
+state_next counted pairs store sums ms closed m long is_open f d t (shut e q o) = absurd (true≢false (sym e ∙ is_open))

@@ -1,5 +1,5 @@
 -- The sheet of a book is the one that the accepted posts give. Assumes nothing.
-use mathlib.Core.Path.{◌≡◌, refl}
+use mathlib.Core.Path.{◌≡◌}
 use Prim.Native.Nat.{ℕ, ◌+◌, ◌<◌}
 use native.Mathlib.Omega.{arith}
 use lib.ListN.{get_or}
@@ -7,32 +7,9 @@ use Rattle.book.specs.Site.{Book, fresh_book}
 use Rattle.stock.proofs.sheet.Laws.{same_sheet}
 use Rattle.claims.specs.Stock.{materials_of, received_as, issued_as, grams_received, grams_issued, store_of, StockByPosts}
 use Rattle.claims.specs.Standing.{Standing, standing, run, numbers_of}
-use Rattle.claims.proofs.ByKind.{Agrees, of_posts_lem}
+use Rattle.claims.proofs.ByKind.{of_posts_lem}
 use Rattle.claims.proofs.Stores.{comes, goes}
 use Rattle.claims.proofs.Tells.{Tells, tells_run, materials_are}
-
--- what moves bring and take is what the posts do by their kinds
-coming : (m : ℕ) → Agrees (comes m) (received_as m)
-coming m =
-    record {
-      of_stock_lem = λ p. refl;
-      of_issue_lem = λ p. refl;
-      of_formed = λ p. refl;
-      of_found = λ p. refl;
-      of_gone = λ p a n. refl;
-      of_close = λ p. refl;
-    }
-
-going : (m : ℕ) → Agrees (goes m) (issued_as m)
-going m =
-    record {
-      of_stock_lem = λ p. refl;
-      of_issue_lem = λ p. refl;
-      of_formed = λ p. refl;
-      of_found = λ p. refl;
-      of_gone = λ p a n. refl;
-      of_close = λ p. refl;
-    }
 
 module _ (w : Standing) (b : Book) (h : Tells w b) (m : ℕ) (known : m < materials_of w) where
   -- the store and what was issued are what came
@@ -43,8 +20,8 @@ module _ (w : Standing) (b : Book) (h : Tells w b) (m : ℕ) (known : m < materi
       omega (
         arith,
         h.store m row,
-        of_posts_lem _ _ (coming m) (numbers_of w) w.posts h.read,
-        of_posts_lem _ _ (going m) (numbers_of w) w.posts h.read,
+        of_posts_lem (comes m) (received_as m) (search) (numbers_of w) w.posts h.read,
+        of_posts_lem (goes m) (issued_as m) (search) (numbers_of w) w.posts h.read,
       )
 
 -- the claim about every list of calls

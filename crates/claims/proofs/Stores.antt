@@ -32,8 +32,4 @@ goes m Close = 0
 -- a move whose grams are there changes each store by what comes and goes
 pub store_next : (store sums : List ℕ) (m : ℕ) (x : Move) → length store ≡ 12 → Fits widest x → is_there store sums x ≡ true
     → get_or (store_after store x) m 0 + goes m x ≡ get_or store m 0 + comes m x
-store_next store sums m (Received i g) long f t = grind (arith, nat_tests, common_steps)
-store_next store sums m (Issued i k g) long f t = grind (arith, nat_tests, common_steps)
-store_next store sums m (Brought a k s n) long f t = omega arith
-store_next store sums m (Gone a k s n) long f t = omega arith
-store_next store sums m Close long f t = omega arith
+store_next store sums m x long f t = grind (arith, nat_tests, common_steps)

@@ -2,21 +2,22 @@
 use mathlib.Core.Path.{◌≡◌, refl, sym, ap, subst, ◌∙◌}
 use mathlib.Core.Bool.{true, false}
 use mathlib.Core.List.{List, [], ◌∷◌, ◌++◌, append_assoc, append-nil, map}
-use Prim.Native.Nat.{ℕ, zero, suc, ◌+◌, ◌*◌, ◌^◌, ◌≤◌, ◌<◌}
+use Prim.Native.Nat.{ℕ, zero, suc, ◌+◌, ◌≤◌, ◌<◌}
 use native.Mathlib.Omega.{arith}
 use lib.ListN.{length, get_or, length-append}
 use Rattle.std.proofs.lemmas.Bool.Decides.{nat_tests}
 use Rattle.std.proofs.lemmas.List.{nil_from_length, map_push}
-use Rattle.std.specs.List.{AllByRecursion}
+use Rattle.std.proofs.lemmas.List.Elements.{All-nil, All-push}
+use Rattle.std.proofs.lemmas.List.Sums.{sum_by_push}
+use Rattle.std.specs.List.{All}
 use Rattle.std.specs.Prelude.{Ok, Err}
-use Rattle.amounts.specs.Decline.{Answer, is_taken, value_or}
+use Rattle.amounts.specs.Decline.{is_taken, value_or}
 use Rattle.amounts.proofs.decline.Laws.{was_taken}
 use Rattle.encoding.specs.Each.{list_to}
 use Rattle.layout.specs.Frame.{count_of, body_of}
 use Rattle.layout.specs.Outline.{may_post}
 use Rattle.layout.specs.Posts.{post_in}
-use Rattle.plant.specs.Setup.{materials_in, setup_of, SoundSetup}
-use Rattle.plant.specs.Stage.{with_stage}
+use Rattle.plant.specs.Setup.{setup_of}
 use Rattle.layout.specs.declared.outline.Outline.{Outline}
 use Rattle.plant.specs.declared.setup.Setup.{Setup}
 use Rattle.kinds.specs.Account.{place}
@@ -29,7 +30,7 @@ use Rattle.post.proofs.moves.Laws.{move_fits}
 use Rattle.post.proofs.moves.Named.{Named, row_read, said_is, move_named}
 use Rattle.book.specs.Entry.{enters, handles}
 use Rattle.book.specs.Posts.{post_on, taken_to, single_on}
-use Rattle.book.specs.Site.{Book, SoundYear, in_year, open_posts, book_with, fresh_book}
+use Rattle.book.specs.Site.{Book, in_year, book_with, fresh_book}
 use Rattle.book.specs.declared.site.Year.{Year}
 use Rattle.book.proofs.block.Laws.{Done, set_up, described, posted, block_done, done_sound, SoundParts}
 use Rattle.book.proofs.entry.Laws.{room_of}
@@ -46,7 +47,6 @@ use Rattle.claims.proofs.Setting.{SetBy, set_by, set_next}
 use Rattle.claims.specs.Stock.{materials_of}
 use Rattle.claims.proofs.Stores.{comes, goes, store_next}
 use Rattle.claims.proofs.State.{State, state_none, none_open, state_next}
-use Rattle.claims.proofs.Sums.{each_last, sum_nil, sum_last}
 
 -- ---- the relation
 
@@ -59,67 +59,63 @@ pub data Setting (w : Standing) (u : Setup) : Type 0 where
 abbrev pub Read : List ℕ → List ℕ → Type 0
 Read numbers s = (r : Row) × (kind_of (post_at s).kind ≡ Ok r) × (move_in r numbers (post_at s) ≡ Ok (said numbers s))
 
-pub record Tells (w : Standing) (b : Book) : Type 0 where
-  pub sound : SoundParts b
-  pub setting : Setting w b.setup
-  pub count : b.year.posts ≡ length w.posts
-  pub entered : (s : ℕ) → s < 8 → in_year b.setup b.year s ≡ demand.entered w s
-  pub handled : (s : ℕ) → s < 8 → get_or b.year.handled s 0 ≡ demand.handled w s
-  pub store : (m : ℕ) → m < 12 → get_or b.year.store m 0 + sum_over (goes m) (moves_of w) ≡ sum_over (comes m) (moves_of w)
-  pub named : AllByRecursion Named (moves_of w)
-  pub read : AllByRecursion (Read (numbers_of w)) w.posts
-  pub state : State (counted_in w) b.setup.to_water (moves_of w) b.year.sums b.year.closed
+-- a set-up and a year are what such a record tells
+pub record Says (w : Standing) (u : Setup) (y : Year) : Type 0 where
+  pub sound : SoundParts u y
+  pub setting : Setting w u
+  pub count : y.posts ≡ length w.posts
+  pub entered : (s : ℕ) → s < 8 → in_year u y s ≡ demand.entered w s
+  pub handled : (s : ℕ) → s < 8 → get_or y.handled s 0 ≡ demand.handled w s
+  pub store : (m : ℕ) → m < 12 → get_or y.store m 0 + sum_over (goes m) (moves_of w) ≡ sum_over (comes m) (moves_of w)
+  pub named : All Named (moves_of w)
+  pub read : All (Read (numbers_of w)) w.posts
+  pub state : State (counted_in w) u.pairs (moves_of w) y.sums y.closed
+
+-- and so is a book, however many blocks it counts
+abbrev pub Tells : Standing → Book → Type 0
+Tells w b = Says w b.setup b.year
 
 -- the substances of the book are those that stand
 pub substances_are : (w : Standing) (b : Book) → Tells w b → b.setup.outline.substances ≡ substances_of w
-substances_are w b h = go h.setting
-  where
-    go : Setting w b.setup → b.setup.outline.substances ≡ substances_of w
-    go (unset e f z _) = z ∙ sym (ap count_of e)
-    go (is_set f) = f.substances
+substances_are w b h = let t = h.setting in grind arith
 
 -- and so are its materials
 pub materials_are : (w : Standing) (b : Book) → Tells w b → b.setup.outline.materials ≡ materials_of w
-materials_are w b h = go h.setting
-  where
-    go : Setting w b.setup → b.setup.outline.materials ≡ materials_of w
-    go (unset e f _ z) = z ∙ sym (ap (λ (s : List ℕ). materials_in (body_of s)) e)
-    go (is_set f) = f.materials
+materials_are w b h = let t = h.setting in grind arith
 
 -- ---- a book without posts, as made and while it is set up
 
-module _ (w : Standing) (u : Setup) (y : Year) (blocks : ℕ) (h : SoundSetup u) (g : SoundYear u y) (none : y.posts ≡ 0) (no-posts : w.posts ≡ []) where
+module _ (w : Standing) (u : Setup) (y : Year) (h : SoundParts u y) (none : y.posts ≡ 0) (no-posts : w.posts ≡ []) where
   no_moves : moves_of w ≡ []
   no_moves = ap (map (said (numbers_of w))) no-posts
 
   nothing_in : (f : Move → ℕ) → sum_over f (moves_of w) ≡ 0
-  nothing_in f = rw no_moves (sum_nil f)
-
-  zero_of : (x n : ℕ) → x ≤ 2 * 10 ^ 15 * n → n ≡ 0 → x ≡ 0
-  zero_of x n l e = omega arith
+  nothing_in f = rw no_moves refl
 
   in_none : (s : ℕ) → s < 8 → in_year u y s ≡ 0
-  in_none s hs = zero_of (in_year u y s) (open_posts y.closed y.posts) (g.bounded s hs) (omega (arith, none, open_posts_le y.closed y.posts))
+  in_none s hs = omega (arith, h.year.bounded s hs, none, open_posts_le y.closed y.posts)
 
   no_grams : (m : ℕ) → m < 12 → get_or y.store m 0 ≡ 0
-  no_grams m hm = omega (arith, none, open_posts_le y.closed y.posts, g.stores m hm)
+  no_grams m hm = omega (arith, none, open_posts_le y.closed y.posts, h.year.stores m hm)
 
-  tells_empty : y.closed ≡ false → Setting w u → Tells w (book_with u y blocks)
+  tells_empty : y.closed ≡ false → Setting w u → Says w u y
   tells_empty o setting =
       record {
-        sound = record { setup = h; year = g };
+        sound = h;
         setting = setting;
         count = rw no-posts none;
         entered = λ s hs. in_none s hs ∙ sym (nothing_in (enters (counted_in w) s));
-        handled = λ s hs. omega (arith, g.weighed s hs, in_none s hs, nothing_in (handles (counted_in w) s));
+        handled = λ s hs. omega (arith, h.year.weighed s hs, in_none s hs, nothing_in (handles (counted_in w) s));
         store = λ m hm. omega (arith, no_grams m hm, nothing_in (goes m), nothing_in (comes m));
-        named = rw no_moves tt;
-        read = rw no-posts tt;
-        state = rw no_moves (state_none (counted_in w) u.to_water y.sums y.closed o (λ a k s hk hs. omega (arith, cell_le y.sums (place a) k s (place_few a) hk, in_none s hs)));
+        named = rw no_moves (All-nil Named);
+        read = rw no-posts (All-nil (Read (numbers_of w)));
+        state = rw no_moves (state_none (counted_in w) u.pairs y.sums y.closed o (λ a k s hk hs. omega (arith, cell_le y.sums (place a) k s (place_few a) hk, in_none s hs)));
       }
 
 pub tells_fresh : Tells nothing fresh_book
-tells_fresh = tells_empty nothing fresh_book.setup fresh_book.year 0 sound_fresh.setup sound_fresh.year refl refl refl (unset refl refl refl refl)
+tells_fresh =
+    let h = sound_fresh in
+    tells_empty nothing _ _ (record { setup = h.setup; year = h.year }) refl refl refl (unset refl refl refl refl)
 
 -- ---- a post
 
@@ -132,13 +128,7 @@ was_set : (w : Standing) (u : Setup) → 1 ≤ u.outline.substances → Setting 
 was_set w u l (unset e f z _) = absurd (omega arith)
 was_set w u l (is_set f) = f
 
-module _ (w : Standing) (b : Book) (z : Year) (s : List ℕ) (blocks : ℕ) (h : Tells w b) (p : Posted b.setup b.year s z) where
-  abbrev u : Setup
-  u = b.setup
-
-  abbrev y : Year
-  y = b.year
-
+module _ (w : Standing) (u : Setup) (y z : Year) (s : List ℕ) (h : Says w u y) (p : Posted u y s z) where
   by : SetBy w.first w.stages u
   by = was_set w u (post_later u.outline p.admitted.in_turn) h.setting
 
@@ -156,12 +146,12 @@ module _ (w : Standing) (b : Book) (z : Year) (s : List ℕ) (blocks : ℕ) (h :
   moves_next = rw (map_push (said (numbers_of w)) w.posts s, says)
 
   sum_next : (f : Move → ℕ) → sum_over f (moves_of (with_posts w (s ∷ []))) ≡ sum_over f (moves_of w) + f p.move
-  sum_next f = rw moves_next (sum_last f (moves_of w) p.move)
+  sum_next f = rw moves_next (sum_by_push f (moves_of w) p.move)
 
   counted_is : u.counted ≡ counted_in w
   counted_is = by.counted
 
-  pub tells_post : Tells (with_posts w (s ∷ [])) (book_with u z blocks)
+  pub tells_post : Says (with_posts w (s ∷ [])) u z
   tells_post =
       let step = post_step u y z s h.sound.setup h.sound.year p in
       let m = p.move in
@@ -184,36 +174,24 @@ module _ (w : Standing) (b : Book) (z : Year) (s : List ℕ) (blocks : ℕ) (h :
               sum_next (goes i),
               sum_next (comes i),
             );
-        named = rw moves_next (each_last Named (moves_of w) m h.named is-named);
-        read = each_last (Read (numbers_of w)) w.posts s h.read was_read;
+        named = rw moves_next (All-push Named (moves_of w) m h.named is-named);
+        read = All-push (Read (numbers_of w)) w.posts s h.read was_read;
         state =
             rw (moves_next, p.year, counted_is)
-            (state_next (counted_in w) u.to_water y.store y.sums (moves_of w) y.closed m h.sound.year.sums_long p.admitted.is_open room.fits is-named p.there h.state);
+            (state_next (counted_in w) u.pairs y.store y.sums (moves_of w) y.closed m h.sound.year.sums_long p.admitted.is_open room.fits is-named p.there h.state);
       }
 
 -- posts in turn
-pub tells_many : (w : Standing) (b : Book) (z : Year) (f : ℕ → List ℕ) (n blocks : ℕ) → Tells w b
-    → taken_to b.setup b.year f n ≡ Ok z → Tells (with_posts w (list_to n f)) (book_with b.setup z blocks)
+pub tells_many : (w : Standing) (u : Setup) (y z : Year) (f : ℕ → List ℕ) (n : ℕ) → Says w u y → taken_to u y f n ≡ Ok z → Says (with_posts w (list_to n f)) u z
 unfolding taken_to list_to
-tells_many w b z f zero blocks h e =
-    let q : z ≡ b.year = cc in
-    rw (q, append-nil w.posts)
-    (record {
-      sound = record { setup = h.sound.setup; year = h.sound.year };
-      setting = h.setting;
-      count = h.count;
-      entered = h.entered;
-      handled = h.handled;
-      store = h.store;
-      named = h.named;
-      read = h.read;
-      state = h.state;
-    })
-tells_many w b z f (suc n) blocks h e =
-    let a = was_taken (taken_to b.setup b.year f n) (λ d. post_on b.setup d (f n)) z e in
-    let before = tells_many w b a.0 f n blocks h a.1 in
+tells_many w u y z f zero h e =
+    let q : z ≡ y = cc in
+    rw (q, append-nil w.posts) h
+tells_many w u y z f (suc n) h e =
+    let a = was_taken (taken_to u y f n) (λ d. post_on u d (f n)) z e in
+    let before = tells_many w u y a.0 f n h a.1 in
     rw (← append_assoc w.posts (list_to n f) (f n ∷ []))
-    (tells_post (with_posts w (list_to n f)) (book_with b.setup a.0 blocks) z (f n) blocks before (posts.posted b.setup a.0 z (f n) a.2))
+    (tells_post (with_posts w (list_to n f)) u a.0 z (f n) before (posts.posted u a.0 z (f n) a.2))
 
 -- ---- a block
 
@@ -221,39 +199,35 @@ tells_many w b z f (suc n) blocks h e =
 stage_later : (o : Outline) → (o.substances ≡ 0 → o.stages ≡ 0) → o.described < o.stages → 1 ≤ o.substances
 stage_later o h l = grind arith
 
--- a set-up block comes before any post
-module _ (w : Standing) (b : Book) (h : Tells w b) (none : b.year.posts ≡ 0) where
+-- a set-up block comes before any post, and what it sets is told
+module _ (w : Standing) (u : Setup) (y : Year) (h : Says w u y) (none : y.posts ≡ 0) where
   none_posted : w.posts ≡ []
   none_posted = nil_from_length w.posts (sym h.count ∙ none)
 
-  is_open : b.year.closed ≡ false
-  is_open = none_open (counted_in w) b.setup.to_water b.year.sums (moves_of w) b.year.closed (ap (map (said (numbers_of w))) none_posted) h.state
+  is_open : y.closed ≡ false
+  is_open = none_open (counted_in w) u.pairs y.sums (moves_of w) y.closed (ap (map (said (numbers_of w))) none_posted) h.state
+
+  tells_set : (v : Standing) (t : Setup) → SoundParts t y → v.posts ≡ w.posts → SetBy v.first v.stages t → Says v t y
+  tells_set v t g same by = tells_empty v t y g none (same ∙ none_posted) is_open (is_set by)
 
 -- the stages that stood before a kind 1 block
 no_stages : (w : Standing) (u : Setup) → u.outline.substances ≡ 0 → Setting w u → w.stages ≡ []
-no_stages w u z (unset e f g _) = f
-no_stages w u z (is_set f) = absurd (omega (arith, f.some))
+no_stages w u z t = grind arith
 
 tells_done : (w : Standing) (b c : Book) (s : List ℕ) → Tells w b → Done b s c → Tells (stand w (block s)) c
 tells_done w b c s h (set_up k a is) =
     let none = h.sound.year.none_before (first.not_yet b.setup.outline a.none) in
-    let g = done_sound b c s h.sound (set_up k a is) in
-    let v : Standing = record { first = s; stages = w.stages; posts = w.posts } in
+    let g = rw is at (done_sound b c s h.sound (set_up k a is)) in
     let u = setup_of (count_of s) (body_of s) in
     let by = subst (λ (bs : List (List ℕ)). SetBy s bs u) (sym (no_stages w b.setup a.none h.setting)) (set_by s a.substances.0) in
-    let q = subst SoundParts is g in
-    rw (is, k) (tells_empty v u b.year (b.blocks + 1) q.setup q.year none (none_posted w b h none) (is_open w b h none) (is_set by))
+    rw (is, k) (tells_set w b.setup b.year h none _ u g refl by)
 tells_done w b c s h (described k a is) =
     let none = h.sound.year.none_before (stage.not_yet b.setup.outline a.left) in
-    let g = done_sound b c s h.sound (described k a is) in
-    let v : Standing = record { first = w.first; stages = w.stages ++ (s ∷ []); posts = w.posts } in
-    let u = with_stage b.setup (count_of s) (body_of s) in
+    let g = rw is at (done_sound b c s h.sound (described k a is)) in
     let had = was_set w b.setup (stage_later b.setup.outline h.sound.setup.stages_later a.left) h.setting in
-    let by = set_next w.first s w.stages b.setup had h.sound.setup a in
-    let q = subst SoundParts is g in
-    rw (is, k) (tells_empty v u b.year (b.blocks + 1) q.setup q.year none (none_posted w b h none) (is_open w b h none) (is_set by))
+    rw (is, k) (tells_set w b.setup b.year h none _ _ g refl (set_next w.first s w.stages b.setup had h.sound.setup a))
 tells_done w b c s h (posted z k o e is) =
-    rw (is, k) (tells_many w b z (post_in (body_of s)) (count_of s) (b.blocks + 1) h e)
+    rw (is, k) (tells_many w b.setup b.year z (post_in (body_of s)) (count_of s) h e)
 
 -- ---- a call, and a list of calls
 
@@ -262,23 +236,18 @@ unfolding single_on
 tells_call w b c (post s) h e =
     let a = was_taken (post_on b.setup b.year s) (λ y. Ok (book_with b.setup y b.blocks)) c e in
     let is : c ≡ book_with b.setup a.0 b.blocks = cc in
-    rw is (tells_post w b a.0 s b.blocks h (posts.posted b.setup b.year a.0 s a.1))
+    rw is (tells_post w b.setup b.year a.0 s h (posts.posted b.setup b.year a.0 s a.1))
 tells_call w b c (block s) h e = tells_done w b c s h (block_done b c s e).1
 
--- the first call, by its answer
-abbrev Keeps : List Call → Type 0
-Keeps calls = (w : Standing) (b : Book) → Tells w b → Tells (stood w (accepted b calls)) (run b calls)
-
-first_call : (w : Standing) (b : Book) (call : Call) (calls : List Call) → Tells w b → Keeps calls → (a : Answer Book) → answer_to b call ≡ a
-    → Tells (stood w (keep (is_taken a) call (accepted (value_or b a) calls))) (run (value_or b a) calls)
-unfolding stood
-first_call w b call calls h rest (Err n) e = rest w b h
-first_call w b call calls h rest (Ok c) e = rest (stand w call) c (tells_call w b c call h e)
-
-tells_all : (calls : List Call) → Keeps calls
+-- every list keeps it
+tells_all : (calls : List Call) (w : Standing) (b : Book) → Tells w b → Tells (stood w (accepted b calls)) (run b calls)
 unfolding run accepted stood
 tells_all [] w b h = h
-tells_all (call ∷ calls) w b h = first_call w b call calls h (tells_all calls) (answer_to b call) refl
+tells_all (call ∷ calls) w b h =
+    (elim (answer_to b call) as (λ a. answer_to b call ≡ a → Tells (stood w (keep (is_taken a) call (accepted (value_or b a) calls))) (run (value_or b a) calls)) [
+      | Ok c ↦ λ e. tells_all calls (stand w call) c (tells_call w b c call h e)
+      | Err n ↦ λ e. tells_all calls w b h
+    ]) refl
 
 -- for every list of calls from a fresh book
 pub tells_run : (calls : List Call) → Tells (standing calls) (run fresh_book calls)

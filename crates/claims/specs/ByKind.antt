@@ -1,6 +1,7 @@
 -- What entered and what was handled, by the numbers of the kinds (document 01, "Treatment and report"; document 02, (b)). The sums of the other claims go by what a post
 -- moves; these go by its fields and the number of its kind, and are read beside the paper without the table of the kinds.
-use Rattle.std.specs.Prelude.{ℕ, ◌+◌, ◌*◌, ◌≡◌, cond, ◌||◌, List, [], ◌∷◌, eqb}
+use Rattle.std.specs.List.{sum_by}
+use Rattle.std.specs.Prelude.{ℕ, ◌*◌, ◌≡◌, cond, ◌||◌, List, eqb}
 use Rattle.kinds.specs.Fields.{post_at}
 use Rattle.kinds.specs.declared.fields.Post.{Post}
 use Rattle.book.specs.Ledger.{brings}
@@ -49,10 +50,8 @@ found_as s found p = of_substance s p (p.quantity * p.content)
 found_as s other p = 0
 
 -- "All is added over the accepted posts of the list", each by its kind
-unfoldable pub sum_posts : (Sort → Post → ℕ) → List (List ℕ) → ℕ
-unfolding sort_of post_at
-sum_posts f [] = 0
-sum_posts f (s ∷ posts) = f (sort_of (post_at s).kind) (post_at s) + sum_posts f posts
+abbrev pub sum_posts : (Sort → Post → ℕ) → List (List ℕ) → ℕ
+sum_posts f posts = sum_by (λ s. f (sort_of (post_at s).kind) (post_at s)) posts
 
 -- for every list of calls given in turn to a fresh book, and every substance
 pub record ByKinds (calls : List Call) (s : ℕ) : Type 0 where

@@ -3,7 +3,7 @@
 use Rattle.std.specs.Prelude.{ℕ, suc, ◌≡◌, List, [], ◌∷◌, length, Ok}
 use Rattle.layout.specs.Frame.{block_of}
 use Rattle.book.specs.Site.{Book, fresh_book, book_with}
-use Rattle.book.specs.Blocks.{parts_in, read, read_all}
+use Rattle.book.specs.Blocks.{parts_in, read_all}
 use Rattle.journal.specs.Reading.{printed_of}
 use Rattle.text.specs.Print.{return_text}
 use Rattle.pages.specs.Calls as calls
@@ -33,7 +33,7 @@ journal_of lent list = joined (blocks_of (ended_calls lent list))
 abbrev pub JournalIsItsCalls : Type 0
 JournalIsItsCalls =
     (lent : List ℕ) (list : List calls.Call) (b : Book) → TakesSingly lent list b
-    → read_all fresh_book 0 (parts_in (journal_of lent list)) ≡ read (book_with b.setup b.year (length (blocks_of (ended_calls lent list))))
+    → read_all fresh_book 0 (parts_in (journal_of lent list)) ≡ Ok (book_with b.setup b.year (length (blocks_of (ended_calls lent list))))
 
 -- ---- 5: what `filing` prints of the journal is what the reports after the posts say
 abbrev pub FilingIsOfCalls : Type 0

@@ -1,5 +1,6 @@
 -- A list of calls, and what stands after it (document 01, "Treatment and report"): all that is summed is read from the bytes of the accepted calls.
-use Rattle.std.specs.Prelude.{ℕ, ◌+◌, Bool, true, false, List, [], ◌∷◌, ◌++◌, map, Ok, Err}
+use Rattle.std.specs.List.{sum_by}
+use Rattle.std.specs.Prelude.{ℕ, Bool, true, false, List, [], ◌∷◌, ◌++◌, map, Ok, Err}
 use Rattle.amounts.specs.Decline.{Answer, is_taken, value_or}
 use Rattle.encoding.specs.Each.{list_to}
 use Rattle.layout.specs.Frame.{block_kind, count_of, body_of}
@@ -99,6 +100,5 @@ abbrev pub moves_of : Standing → List Move
 moves_of w = map (said (numbers_of w)) w.posts
 
 -- "All is added over the accepted posts of the list"
-unfoldable pub sum_over : (Move → ℕ) → List Move → ℕ
-sum_over f [] = 0
-sum_over f (m ∷ ms) = f m + sum_over f ms
+abbrev pub sum_over : (Move → ℕ) → List Move → ℕ
+sum_over f ms = sum_by f ms

@@ -1,6 +1,6 @@
 -- The report as the posts say it (document 01, "Posts" and "Treatment and report"; document 02, (b); document 003): each amount is a sum over the accepted posts of the list, by
 -- what the accepted set-up blocks say. All is read from bytes, and nothing from a book.
-use Rattle.std.specs.Prelude.{ℕ, ◌+◌, ◌-◌, ◌≤◌, ◌<◌, ◌≡◌, Bool, true, false, ◌&&◌, ◌||◌, cond, List, [], ◌∷◌, eqb, ltb, length, get_or, drop}
+use Rattle.std.specs.Prelude.{ℕ, ◌+◌, ◌-◌, ◌≤◌, ◌<◌, ◌≡◌, Bool, false, ◌&&◌, ◌||◌, cond, List, [], ◌∷◌, eqb, ltb, length, get_or, drop}
 use Rattle.amounts.specs.Decline.{Answer, check, checked, value_or}
 use Rattle.amounts.specs.declared.decline.Decline.TheVariants.{NoSubstance}
 use Rattle.amounts.specs.Threshold.{due_of}
@@ -160,12 +160,10 @@ held_at w s stage = before_close w (remains w s stage)
 
 -- "Each holding moves to gas or waste water, by that pair's side", which is water or is not
 abbrev pub to_water : Bool → ℕ → ℕ
-to_water true n = n
-to_water false n = 0
+to_water water n = cond water n 0
 
 abbrev pub to_gas : Bool → ℕ → ℕ
-to_gas true n = 0
-to_gas false n = n
+to_gas water n = cond water 0 n
 
 abbrev pub gas_total : Standing → ℕ → ℕ → ℕ
 gas_total w s stage = under Gas w s stage + at_close w (to_gas (water_for w stage s) (remains w s stage))
@@ -178,12 +176,12 @@ water_total w s stage = under Water w s stage + at_close w (to_water (water_for 
 abbrev pub gas_split : Standing → ℕ → ℕ → Parts
 gas_split w s stage =
     let r = rates_for w stage s in
-    parts_of (gas_total w s stage) r.gas_removal r.gas_destruction
+    parts_of (gas_total w s stage) r.gas.removal r.gas.destruction
 
 abbrev pub water_split : Standing → ℕ → ℕ → Parts
 water_split w s stage =
     let r = rates_for w stage s in
-    parts_of (water_total w s stage) r.water_removal r.water_destruction
+    parts_of (water_total w s stage) r.water.removal r.water.destruction
 
 abbrev pub residue : Standing → ℕ → ℕ → ℕ
 residue w s stage = (gas_split w s stage).residue + (water_split w s stage).residue

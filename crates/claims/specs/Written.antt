@@ -1,4 +1,5 @@
 -- The journal of a list of accepted calls, over their bytes alone, and what is claimed of it (document 02, (a)).
+use Rattle.std.specs.List.{flat_map}
 use Rattle.std.specs.Prelude.{ℕ, suc, ◌≤◌, ◌<◌, ◌≡◌, true, false, cond, List, [], ◌∷◌, ◌++◌, eqb, length, drop, Ok, Err}
 use Rattle.amounts.specs.Decline.{Answer, Check, checked, on_taken, is_taken}
 use Rattle.encoding.specs.Bytes.{padded}
@@ -75,11 +76,14 @@ EndedHoldsJournal = (lent : List ℕ) (calls : List Call) → Holds lent (joined
 
 -- ---- 2: the posts
 
-unfoldable pub posts_taken : List Call → List (List ℕ)
-posts_taken [] = []
-posts_taken (set_up kind count body ∷ calls) = posts_taken calls
-posts_taken (post s ∷ calls) = s ∷ posts_taken calls
-posts_taken (end ∷ calls) = posts_taken calls
+-- the post that a call brings
+abbrev pub post_by : Call → List (List ℕ)
+post_by (set_up kind count body) = []
+post_by (post s) = s ∷ []
+post_by end = []
+
+abbrev pub posts_taken : List Call → List (List ℕ)
+posts_taken calls = flat_map post_by calls
 
 -- the posts that a block holds: a block of posts its count of them, another none
 abbrev pub posts_by : List ℕ → Answer block.Holds → List (List ℕ)
@@ -90,9 +94,8 @@ posts_by s (Err n) = []
 abbrev pub posts_in : List ℕ → List (List ℕ)
 posts_in s = posts_by s (holds_of (block_kind s))
 
-unfoldable pub posts_in_all : List (List ℕ) → List (List ℕ)
-posts_in_all [] = []
-posts_in_all (s ∷ blocks) = posts_in s ++ posts_in_all blocks
+abbrev pub posts_in_all : List (List ℕ) → List (List ℕ)
+posts_in_all blocks = flat_map posts_in blocks
 
 -- "the blocks, once ended, hold the same posts in order"
 abbrev pub BlocksHoldPosts : Type 0

@@ -1,12 +1,13 @@
 -- Laws of what is added, asked, listed or written for each of the numbers 0 .. n - 1. Assumes nothing.
+use Rattle.std.proofs.lemmas.Bool.{and_parts}
 use mathlib.Core.Path.{◌≡◌, refl, sym, ap, subst, ◌∙◌}
-use mathlib.Core.Bool.{Bool, true, false, true≢false, ◌&&◌}
+use mathlib.Core.Bool.{Bool, true, false}
 use mathlib.Core.List.{List, [], ◌∷◌, ◌++◌}
 use Prim.Native.Nat.{ℕ, zero, suc, ◌+◌, ◌≤◌, ◌<◌}
 use native.Mathlib.Decide.{ℕ_discrete, dec_lt}
 use native.Mathlib.Numerals.{add-one}
 use native.Mathlib.Omega.{arith}
-use lib.ListN.{length, get_or, set, replicate, length-append, length-set, length-replicate, get_or-append, get_or-eq_default}
+use lib.ListN.{length, get_or, set, length-append, length-set, get_or-append, get_or-eq_default}
 use lib.Seq.{ext_get_or, get_or_at, get_or-set_same, get_or-set_other}
 use Rattle.std.specs.Array.{IsFromFnResultFrom, IsFromFnResult}
 use Rattle.std.specs.Fn.{Called}
@@ -63,21 +64,10 @@ sum_mono k (suc n) f h = go (ℕ_discrete k (suc n)) (sum_mono k n f)
 
 -- ---- what holds of each
 
-pub and_true : (x y : Bool) → (x && y) ≡ true → (x ≡ true) × (y ≡ true)
-and_true true y e = (refl, e)
-and_true false y e = absurd (true≢false (sym e))
-
-pub all_again : (n : ℕ) (f : ℕ → Bool) → all_to n f ≡ true → f n ≡ true → all_to (n + 1) f ≡ true
-unfolding all_to
-all_again n f h e = rw (add-one, h) e
-
-pub all_done : (i n : ℕ) (f : ℕ → Bool) → i ≤ n → n ≤ i → all_to i f ≡ true → true ≡ all_to n f
-all_done i n f l g h = let e : i ≡ n = omega arith in sym h ∙ ap (λ k. all_to k f) e
-
 pub all_at : (n : ℕ) (f : ℕ → Bool) (i : ℕ) → all_to n f ≡ true → i < n → f i ≡ true
 unfolding all_to
 all_at zero f i h l = absurd (omega arith)
-all_at (suc n) f i h l = let w = and_true (all_to n f) (f n) h in go (ℕ_discrete i n) w.1 (all_at n f i w.0)
+all_at (suc n) f i h l = let w = and_parts (all_to n f) (f n) h in go (ℕ_discrete i n) w.1 (all_at n f i w.0)
   where
     go : Dec (i ≡ n) → f n ≡ true → (i < n → f i ≡ true) → f i ≡ true
     go (yes e) last before = ap f e ∙ last
@@ -153,9 +143,6 @@ module _ {A : Type 0} where
     unfolding put_to
     put_again n out v e w = rw (add-one, e, w)
 
-    pub put_done : (i n : ℕ) (out : List A) → i ≤ n → n ≤ i → out ≡ put_to place f l i → out ≡ put_to place f l n
-    put_done i n out h g e = let k : i ≡ n = omega arith in e ∙ ap (λ j. put_to place f l j) k
-
     pub length-put : (n : ℕ) → length (put_to place f l n) ≡ length l
     unfolding put_to
     length-put zero = refl
@@ -184,15 +171,3 @@ module _ {A : Type 0} where
     put_keeps P d h zero w j = h j
     put_keeps P d h (suc n) w j =
         set_keeps P d (put_to place f l n) (place n) (f n) (put_keeps P d h n (λ i g. w i (omega arith))) (w n (omega arith)) j
-
-  -- an array that is filled place by place is the list
-  pub fill : (n : ℕ) (f : ℕ → A) (a : A) → put_to (λ i. i) f (replicate n a) n ≡ list_to n f
-  fill n f a =
-      let long : length (put_to (λ i. i) f (replicate n a) n) ≡ n = length-put (λ i. i) f (replicate n a) n ∙ length-replicate n a in
-      ext_get_or a (put_to (λ i. i) f (replicate n a) n) (list_to n f) (long ∙ sym (length_list n f))
-      (λ i h.
-      put_at (λ i. i) f (replicate n a) n i a (λ j k e. e) (omega arith) (omega (arith, length-replicate n a))
-      ∙ sym (list_at n f i a (omega arith)))
-
-  pub fill_done : (n : ℕ) (f : ℕ → A) (a : A) (i : ℕ) (out : List A) → i ≤ n → n ≤ i → out ≡ put_to (λ i. i) f (replicate n a) i → out ≡ list_to n f
-  fill_done n f a i out h g e = put_done (λ i. i) f (replicate n a) i n out h g e ∙ fill n f a

@@ -10,7 +10,7 @@ pub fn byte_at(s: &[u8], at: usize) -> u8
     s.get(at).copied().unwrap_or(0)
 }
 
-// The bytes from a place on, N of them. Where all are there they are read in one piece: one by one, a post's numbers took twice as long.
+// The bytes from a place on, N of them. Where all are there they are read in one piece: one by one, a post's numbers take twice as long.
 fn bytes_at<const N: usize>(s: &[u8], at: usize) -> [u8; N]
     ensures { result ≡ first_bytes N (drop at s.now) }
 {
@@ -21,7 +21,7 @@ fn bytes_at<const N: usize>(s: &[u8], at: usize) -> [u8; N]
     }
 }
 
-// A function for each width, since one for all would need a trait over the three `from_le_bytes`.
+// A function for each width: one for all would need a trait with an impl for each, longer than these lines, and its callers' contracts the trait's word for a number.
 pub fn le16(s: &[u8], at: usize) -> u16
     ensures { result ≡ le 2 (drop at s.now) }
 {
@@ -46,7 +46,7 @@ pub fn all_zero(s: &[u8]) -> bool
     s.iter().all(|b| *b == 0)
 }
 
-// The bytes from a place on, as far as there are bytes.
+// The bytes from a place on, as far as there are bytes. With an end and without are two functions: one over a range would have a case for each kind of bound.
 pub fn tail(s: &[u8], at: usize) -> &[u8]
     ensures { result.now ≡ drop at s.now }
 {

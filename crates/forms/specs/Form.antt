@@ -2,6 +2,7 @@
 use Rattle.std.specs.Prelude.{ℕ, ◌^◌, Bool, ◌&&◌, cond, [], ◌∷◌, eqb, Float, Err}
 use Rattle.amounts.specs.Decline.{Answer, check, checked, is_taken}
 use Rattle.amounts.specs.declared.decline.Decline.TheVariants.{Layout, OutOfRange}
+use Rattle.forms.specs.Binary64.{value_of}
 use Rattle.forms.specs.Pattern.{◌to◌, in_range}
 use Rattle.forms.specs.declared.form.Inputs.{Inputs}
 use Rattle.forms.specs.declared.pattern.Range.{Range}
@@ -24,23 +25,27 @@ station_ranges = record { w = 0 to 10 ^ 9; u = 0 to 10 ^ 9; p = 0 to 10 ^ 9; q =
 abbrev pub unused_ranges : Inputs Range
 unused_ranges = record { w = 0 to 0; u = 0 to 0; p = 0 to 0; q = 0 to 0 }
 
-abbrev pub in_ranges : Inputs Range → Float → Float → Float → Float → Bool
-in_ranges r w u p q = in_range r.w w && (in_range r.u u && (in_range r.p p && in_range r.q q))
+-- the floats that four bit patterns are
+abbrev pub values_of : Inputs ℕ → Inputs Float
+values_of bits = record { w = value_of bits.w; u = value_of bits.u; p = value_of bits.p; q = value_of bits.q }
+
+abbrev pub in_ranges : Inputs Range → Inputs Float → Bool
+in_ranges r i = in_range r.w i.w && (in_range r.u i.u && (in_range r.p i.p && in_range r.q i.q))
 
 -- 7: each float is in its range, or the form is declined
-unfoldable pub ranged : {A : Type 0} → Inputs Range → Float → Float → Float → Float → A → Answer A
+unfoldable pub ranged : {A : Type 0} → Inputs Range → Inputs Float → A → Answer A
 unfolding checked
-ranged r w u p q a = checked (check (in_ranges r w u p q) OutOfRange ∷ []) a
+ranged r i a = checked (check (in_ranges r i) OutOfRange ∷ []) a
 
 -- form 1, floating roof; 2, filling a fixed roof; 3, station; "declines a form .. outside this paper's limits by 6; a loss is then declined by 7 .."
-unfoldable pub form_of : ℕ → Float → Float → Float → Float → Answer LossForm
+unfoldable pub form_of : ℕ → Inputs Float → Answer LossForm
 unfolding ranged
-form_of n w u p q =
-    cond (eqb n 1) (ranged floating_ranges w u p q (FloatingRoof w u p))
-    (cond (eqb n 2) (ranged fixed_ranges w u p q (FixedRoof w u p q))
-    (cond (eqb n 3) (ranged station_ranges w u p q (Station w u p q)) (Err Layout)))
+form_of n i =
+    cond (eqb n 1) (ranged floating_ranges i (FloatingRoof i.w i.u i.p))
+    (cond (eqb n 2) (ranged fixed_ranges i (FixedRoof i.w i.u i.p i.q))
+    (cond (eqb n 3) (ranged station_ranges i (Station i.w i.u i.p i.q)) (Err Layout)))
 
--- whether four floats are in the ranges of the form of a number; a number that is no form has none
-unfoldable pub in_form : ℕ → Float → Float → Float → Float → Bool
+-- whether floats are in the ranges of the form of a number; a number that is no form has none
+unfoldable pub in_form : ℕ → Inputs Float → Bool
 unfolding form_of
-in_form n w u p q = is_taken (form_of n w u p q)
+in_form n i = is_taken (form_of n i)

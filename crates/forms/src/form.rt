@@ -1,7 +1,6 @@
 // The three forms of a vapour loss, and the ranges of their inputs.
 ghost use Rattle.std.specs.Prelude.{◌≡◌};
-ghost use Rattle.forms.specs.Binary64.{value_of};
-ghost use Rattle.forms.specs.Form.{ranged, form_of, in_form};
+ghost use Rattle.forms.specs.Form.{values_of, ranged, form_of, in_form};
 
 use crate::pattern;
 use crate::pattern::Range;
@@ -82,8 +81,7 @@ const STATION: Inputs<Range> = Inputs {
 // Four floats from their bit patterns, each in its range.
 #[tactic(auto, unfolding(crate::specs::Form::ranged, crate::specs::Pattern::reading_of, amounts::specs::Decline::checked))]
 fn read_inputs(ranges: Inputs<Range>, bits: Inputs<u64>) -> Result<Inputs<f64>, Decline>
-    ensures { let w = value_of bits.w in let u = value_of bits.u in let p = value_of bits.p in let q = value_of bits.q in
-        result ≡ ranged ranges w u p q (record { w = w; u = u; p = p; q = q }) }
+    ensures { result ≡ ranged ranges (values_of bits) (values_of bits) }
 {
     Ok(Inputs {
         w: pattern::read_float(bits.w, ranges.w)?,
@@ -93,11 +91,11 @@ fn read_inputs(ranges: Inputs<Range>, bits: Inputs<u64>) -> Result<Inputs<f64>, 
     })
 }
 
-// The form of a number with its inputs, from four bit patterns. It is inlined for speed: called, it would hand them on in memory.
+// The form of a number with its inputs, from four bit patterns. The number is a byte, as a post and the C interface have it. It is inlined for speed: called, it would hand them on in memory.
 #[tactic(auto, using(crate::proofs::Numerals::ends), unfolding(crate::specs::Form::form_of, crate::specs::Form::ranged, amounts::specs::Decline::checked))]
 #[inline(always)]
 pub fn read_form(form: u8, bits: Inputs<u64>) -> Result<LossForm, Decline>
-    ensures { result ≡ form_of form (value_of bits.w) (value_of bits.u) (value_of bits.p) (value_of bits.q) }
+    ensures { result ≡ form_of form (values_of bits) }
 {
     match form {
         1 => {
@@ -130,10 +128,10 @@ pub fn read_form(form: u8, bits: Inputs<u64>) -> Result<LossForm, Decline>
     }
 }
 
-// Whether four bit patterns are in the ranges of a form's number; a number that is no form has none.
+// Whether four bit patterns are in the ranges of a form's number, which is a byte of a post; a number that is no form has none.
 #[tactic(auto, unfolding(crate::specs::Form::in_form))]
 pub fn in_form(form: u8, bits: Inputs<u64>) -> bool
-    ensures { result ≡ in_form form (value_of bits.w) (value_of bits.u) (value_of bits.p) (value_of bits.q) }
+    ensures { result ≡ in_form form (values_of bits) }
 {
     read_form(form, bits).is_ok()
 }

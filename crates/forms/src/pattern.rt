@@ -5,7 +5,7 @@ ghost use Rattle.forms.specs.Pattern.{◌to◌, in_range, reading_of};
 
 use amounts::decline::{Decline, check};
 
-// Both ends belong to a range.
+// Both ends belong to a range. It is no `RangeInclusive`, which isn't `Copy`: the constants would be cloned for each reading.
 #[derive(Clone, Copy, Debug, PartialEq)]
 pub struct Range {
     pub low: f64,
@@ -27,7 +27,7 @@ pub fn read_float(bits: u64, range: Range) -> Result<f64, Decline>
     Ok(x)
 }
 
-// Whether a float is zero, of either sign: "an unused float has zero as its whole range".
+// Whether a float is zero, of either sign, by its bits, as most posts are asked for four: "an unused float has zero as its whole range".
 #[tactic(auto, using(crate::proofs::pattern::Laws::zero_pattern))]
 pub fn is_zero(bits: u64) -> bool
     ensures { result ≡ in_range (0 to 0) (value_of bits) }

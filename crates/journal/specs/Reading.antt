@@ -1,10 +1,12 @@
 -- Reading a journal, and what `filing` prints (document 01, "`filing`").
-use Rattle.std.specs.Prelude.{ℕ, suc, ◌-◌, ◌<◌, ◌≡◌, Bool, true, false, List, Option, Some, None, Ok, Err}
+use Rattle.std.specs.Prelude.{ℕ, suc, ◌-◌, ◌<◌, ◌≡◌, Bool, false, List, Option, Some, None, Result, Ok, Err}
+use Rattle.std.specs.Option.{is_some}
 use Rattle.amounts.specs.Decline.{Answer, number}
 use Rattle.amounts.specs.declared.decline.Decline.{Decline}
 use Rattle.book.specs.Block.{block_on}
 use Rattle.book.specs.Site.{Book, fresh_book}
-use Rattle.book.specs.Blocks.{parts_in, Outcome, read, refused, read_all}
+use Rattle.book.specs.Blocks.{parts_in, read_all}
+use Rattle.book.specs.declared.blocks.Refused.{Refused}
 use Rattle.text.specs.Line.{refused_text}
 use Rattle.text.specs.Print.{return_text}
 use Rattle.journal.specs.declared.reading.Reading.{Reading}
@@ -12,9 +14,9 @@ use Rattle.journal.specs.declared.reading.Reading.{Reading}
 -- ---- what a journal's bytes print
 
 -- "At the first decline it stops and prints only one line"
-abbrev pub outcome_text : Outcome → List ℕ
-outcome_text (read b) = return_text b
-outcome_text (refused place n) = refused_text place (number n)
+abbrev pub outcome_text : Result Book Refused → List ℕ
+outcome_text (Ok b) = return_text b
+outcome_text (Err r) = refused_text r.place (number r.decline)
 
 -- what `filing` prints of a journal
 abbrev pub printed_of : List ℕ → List ℕ
@@ -38,12 +40,8 @@ abbrev pub fed : Reading → List ℕ → Reading
 fed r part = fed_while r.stopped r.book part
 
 -- "At the first decline it stops"
-abbrev pub is_decline : Option Decline → Bool
-is_decline None = false
-is_decline (Some d) = true
-
 abbrev pub has_stopped : Reading → Bool
-has_stopped r = is_decline r.stopped
+has_stopped r = is_some r.stopped
 
 -- what there is to print after a part: the place of the block that was declined is the number of those before it
 abbrev pub text_while : Option Decline → Book → List ℕ

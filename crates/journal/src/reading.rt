@@ -1,15 +1,15 @@
 // What a journal prints: fed one part of the input at a time, or whole.
 ghost use Rattle.std.specs.Prelude.{◌≡◌};
-ghost use Rattle.text.specs.Writing.{Tries};
 ghost use Rattle.journal.specs.Reading.{printed_of};
 
 use amounts::decline::Decline;
 use book::blocks::take_blocks;
 use book::site::Book;
-use text::print::{print_refused, print_return};
+use text::print::{refusal_of, return_of};
+use text::writing::Text;
 
 // A journal as far as it was fed: the book after the blocks that it took, and why the block after them was declined, if it was.
-#[derive(Drop)]
+#[derive(Clone, Copy)]
 pub struct Reading {
     book: Book,
     stopped: Option<Decline>,
@@ -44,23 +44,23 @@ impl Reading {
         self.stopped.is_some()
     }
 
-    // What there is to print after the parts that were fed, at the start of a lent buffer where 1,336 bytes are free, and its length.
-    pub fn print(&self, out: &mut [u8]) -> Option<usize>
-        ensures { Tries 1336 out.old 0 (text_of self.now) out.new result }
+    // What there is to print after the parts that were fed.
+    pub fn text(&self) -> Text
+        ensures { result.items ≡ text_of self.now }
     {
         match self.stopped {
-            None => print_return(&self.book, out),
-            Some(decline) => print_refused(self.book.block_number(), decline, out),
+            None => return_of(&self.book),
+            Some(decline) => refusal_of(self.book.block_number(), decline.number()),
         }
     }
 }
 
-// What a whole journal in memory prints, where as many bytes are free, and its length.
-pub fn print_journal(journal: &[u8], out: &mut [u8]) -> Option<usize>
-    ensures { Tries 1336 out.old 0 (printed_of journal.now) out.new result }
+// What a whole journal in memory prints.
+pub fn text_of_journal(journal: &[u8]) -> Text
+    ensures { result.items ≡ printed_of journal.now }
 {
     match take_blocks(journal) {
-        Ok(book) => print_return(&book, out),
-        Err(refused) => print_refused(refused.place, refused.decline, out),
+        Ok(book) => return_of(&book),
+        Err(refused) => refusal_of(refused.place, refused.decline.number()),
     }
 }

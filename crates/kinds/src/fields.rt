@@ -1,10 +1,8 @@
 // A post's 48 bytes, field by field.
-ghost use Rattle.std.specs.Prelude.{◌≡◌};
-ghost use Rattle.kinds.specs.Fields.{post_at};
-
 use encoding::bytes;
 
-// Floats are kept as bit patterns. In kind 12 the form stands in the material's place.
+// As its bytes are, kind and form by number: what they name is read where declines are told. Floats are kept as bit patterns. In kind 12 the form stands in the
+// material's place.
 #[derive(Clone, Copy, Debug, PartialEq, Eq)]
 pub struct Post {
     pub kind: u8,
@@ -19,20 +17,25 @@ pub struct Post {
     pub q: u64,
 }
 
-#[tactic(auto, unfolding(crate::specs::Fields::post_at))]
-pub fn decode(s: &[u8]) -> Post
-    ensures { result ≡ post_at s.now }
-{
-    Post {
-        kind: bytes::byte_at(s, 0),
-        material: bytes::byte_at(s, 1),
-        stage: bytes::byte_at(s, 2),
-        substance: bytes::byte_at(s, 3),
-        content: bytes::le32(s, 4),
-        quantity: bytes::le64(s, 8),
-        w: bytes::le64(s, 16),
-        u: bytes::le64(s, 24),
-        p: bytes::le64(s, 32),
-        q: bytes::le64(s, 40),
+impl Post {
+    ghost use Rattle.std.specs.Prelude.{◌≡◌};
+    ghost use Rattle.kinds.specs.Fields.{post_at};
+
+    #[tactic(auto, unfolding(crate::specs::Fields::post_at))]
+    pub fn decode(s: &[u8]) -> Post
+        ensures { result ≡ post_at s.now }
+    {
+        Post {
+            kind: bytes::byte_at(s, 0),
+            material: bytes::byte_at(s, 1),
+            stage: bytes::byte_at(s, 2),
+            substance: bytes::byte_at(s, 3),
+            content: bytes::le32(s, 4),
+            quantity: bytes::le64(s, 8),
+            w: bytes::le64(s, 16),
+            u: bytes::le64(s, 24),
+            p: bytes::le64(s, 32),
+            q: bytes::le64(s, 40),
+        }
     }
 }

@@ -9,7 +9,7 @@ use layout::outline::Outline;
 use std::ops::Range;
 
 // What a post's fields may be.
-#[derive(Drop)]
+#[derive(Clone, Debug, PartialEq, Eq, Drop)]
 pub struct Limits {
     pub material: Range<u64>,
     pub stage: Range<u64>,
@@ -36,7 +36,7 @@ pub enum Does {
     Closes,
 }
 
-#[derive(Drop)]
+#[derive(Clone, Debug, PartialEq, Eq, Drop)]
 pub struct Kind {
     pub limits: Limits,
     pub measure: Measure,
@@ -78,6 +78,7 @@ fn of_stock(o: Outline) -> Limits
     }
 }
 
+// A row's fields, as in the four that follow: each row names others.
 fn of_issue(o: Outline) -> Limits
     ensures { result ≡ of_issue o }
 {
@@ -132,7 +133,7 @@ pub fn kind_of(o: Outline, number: u8) -> Result<Kind, Decline>
     use Measure::{Content, Loss, Quantity};
 
     let (limits, measure, does) = match number {
-        // An arm each, as each has its row; one arm for both was measured slower.
+        // An arm each, as each has its row; one arm for both is slower.
         1 => (of_stock(o), Quantity, Receives),
         2 => (of_stock(o), Quantity, Receives),
         3 => (of_issue(o), Quantity, Issues),

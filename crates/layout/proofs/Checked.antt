@@ -2,8 +2,9 @@
 use mathlib.Core.Path.{◌≡◌, refl}
 use mathlib.Core.Bool.{true, false}
 use mathlib.Core.List.{List, [], ◌∷◌, ◌++◌}
-use Rattle.std.specs.Prelude.{Ok}
+use Rattle.std.specs.Prelude.{Ok, Err}
 use Rattle.amounts.specs.Decline.{Answer, Check, check, checked, on_taken}
+use Rattle.amounts.specs.declared.decline.Decline.{Decline}
 
 abbrev pub AllPass : List Check → Type 0
 AllPass [] = Unit
@@ -33,3 +34,17 @@ unfolding checked
 guards [] a b next = refl
 guards (check true n ∷ rows) a b next = guards rows a b next
 guards (check false n ∷ rows) a b next = refl
+
+-- what the answer of a table of checks tells, for whatever value the table guards
+module _ {A B : Type 0} (a : A) (b : B) where
+  pub accepts : (rows : List Check) {x : A} → Ok x ≡ checked rows a → checked rows b ≡ Ok b
+  unfolding checked
+  accepts [] e = refl
+  accepts (check true n ∷ rows) e = accepts rows e
+  accepts (check false n ∷ rows) e = cc
+
+  pub declines : (rows : List Check) (d : Decline) → Err d ≡ checked rows a → checked rows b ≡ Err d
+  unfolding checked
+  declines [] d e = cc
+  declines (check true n ∷ rows) d e = declines rows d e
+  declines (check false n ∷ rows) d e = cc

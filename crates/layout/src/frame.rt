@@ -39,9 +39,9 @@ pub fn check_sums(s: &[u8]) -> CheckSums
 }
 
 // A byte's place, from 1. Signed and of 16 bits, which the compiler multiplies and adds eight at a time.
-// A function of its own, since with the cast in the loop a block's sums took 1.4 times as long.
+// A function of its own, since with the cast in the loop a block's sums take 1.4 times as long.
 fn place_of(i: usize) -> i16
-    requires { i < 508 }
+    requires { i < 32767 }
     ensures { result ≡ pos (i + 1) }
 {
     (i + 1) as i16
@@ -70,7 +70,8 @@ pub fn read_frame(number: u32, s: &[u8]) -> Result<Holds, Decline>
     Holds::try_from(bytes::byte_at(s, 4))
 }
 
-// The block of a kind, a count and a number over the body that it holds: the tag and the head before it, the check sums behind it.
+// The block of a kind, a count and a number over the body that it holds: the tag and the head before it, the check sums behind it. The kind is its byte, as it
+// stands there.
 pub fn framed(block: [u8; 512], kind: u8, count: u8, number: u16) -> [u8; 512]
     ensures { result ≡ block_of kind count number (body_of block) }
 {

@@ -35,6 +35,7 @@ impl TryFrom<u8> for Holds {
     }
 }
 
+// For the frame, which is checked as a whole.
 pub fn is_kind(kind: u8) -> bool
     ensures { result ≡ is_taken (holds_of kind) }
 {

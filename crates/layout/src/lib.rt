@@ -1,4 +1,4 @@
-// What a block's frame and the bodies of its kinds say, their turns and limits, without a book.
+// What a block's frame and a block of posts say, their turns and limits, without a book.
 #![tactic(auto)]
 
 pub mod frame;

@@ -1,7 +1,6 @@
 // How far a book's set-up has come: the counts that turns and limits go by.
-ghost use Rattle.std.specs.Prelude.{◌≡◌};
-ghost use Rattle.layout.specs.Outline.{fresh_outline, may_set_up, may_describe, may_post};
 
+// All counts are 0 before any set-up, by which turns are told.
 #[derive(Clone, Copy, Debug, Default, PartialEq, Eq)]
 pub struct Outline {
     pub substances: u8,
@@ -10,26 +9,25 @@ pub struct Outline {
     pub described: u8,
 }
 
-pub fn fresh() -> Outline
-    ensures { result ≡ fresh_outline }
-{
-    Outline::default()
-}
+impl Outline {
+    ghost use Rattle.std.specs.Prelude.{◌≡◌};
+    ghost use Rattle.layout.specs.Outline.{may_set_up, may_describe, may_post};
 
-pub fn may_set_up(o: Outline) -> bool
-    ensures { result ≡ may_set_up o }
-{
-    o.substances == 0
-}
+    pub fn may_set_up(self) -> bool
+        ensures { result ≡ may_set_up self }
+    {
+        self.substances == 0
+    }
 
-pub fn may_describe(o: Outline, stage: u8) -> bool
-    ensures { result ≡ may_describe o stage }
-{
-    o.described < o.stages && stage == o.described
-}
+    pub fn may_describe(self, stage: u8) -> bool
+        ensures { result ≡ may_describe self stage }
+    {
+        self.described < self.stages && stage == self.described
+    }
 
-pub fn may_post(o: Outline) -> bool
-    ensures { result ≡ may_post o }
-{
-    o.substances != 0 && o.described == o.stages
+    pub fn may_post(self) -> bool
+        ensures { result ≡ may_post self }
+    {
+        self.substances != 0 && self.described == self.stages
+    }
 }

@@ -8,6 +8,7 @@ use Rattle.amounts.specs.declared.decline.Decline.TheVariants.{Layout, Excess}
 use Rattle.forms.specs.Form.{form_of}
 use Rattle.losses.specs.Whole.{whole_part}
 use Rattle.losses.specs.declared.coefficient.CoefficientRow.{CoefficientRow}
+use Rattle.forms.specs.declared.form.Inputs.{Inputs}
 use Rattle.forms.specs.declared.form.LossForm.{LossForm}
 use Rattle.forms.specs.declared.form.LossForm.TheVariants.{FloatingRoof, FixedRoof, Station}
 
@@ -44,11 +45,11 @@ unfolding limited_of
 loss_of form found = on_taken (kg_of form found) limited_of
 
 -- "a loss is then declined by 7, 8 and 9 in that order": by a form's number and its floats, over the row found for its substance
-unfoldable pub loss_over : ℕ → Answer CoefficientRow → Float → Float → Float → Float → Answer ℕ
+unfoldable pub loss_over : ℕ → Answer CoefficientRow → Inputs Float → Answer ℕ
 unfolding form_of loss_of
-loss_over form found w u p q = on_taken (form_of form w u p q) (λ f. loss_of f found)
+loss_over form found i = on_taken (form_of form i) (λ f. loss_of f found)
 
 -- a loss called alone: "declines a form .. or other whole number outside this paper's limits by 6"
-unfoldable pub vapour_of : ℕ → ℕ → Float → Float → Float → Float → Answer ℕ
+unfoldable pub vapour_of : ℕ → ℕ → Inputs Float → Answer ℕ
 unfolding loss_over
-vapour_of form number w u p q = cond (nat_le 1 number) (loss_over form (row_of number) w u p q) (Err Layout)
+vapour_of form number i = cond (nat_le 1 number) (loss_over form (row_of number) i) (Err Layout)

@@ -7,7 +7,6 @@ ghost use Rattle.pages.specs.Tally.{set_up_on, post_on, ended, Sound, Counts};
 use crate::tally::Tally;
 use amounts::decline::{Decline, check};
 use layout::holds::{Holds, SetupPart};
-use layout::outline;
 use plant::{setup, stage};
 use post::moves;
 
@@ -52,6 +51,7 @@ impl Counter {
         self.tally.waiting != 0 || self.is_free()
     }
 
+    // A match on what a block holds, of which there are two kinds.
     fn check_part(&self, part: SetupPart, count: u8, body: &[u8]) -> Result<(), Decline>
         ensures { result ≡ checked (part_checks self.now.tally.outline part count body.now) (tt {0}) }
     {
@@ -73,7 +73,7 @@ impl Counter {
     fn check_post(&self, post: &[u8]) -> Result<(), Decline>
         ensures { result ≡ verdict_of (post_answer self.now.room self.now.tally post.now) }
     {
-        check(outline::may_post(self.tally.outline), Decline::OutOfTurn)?;
+        check(self.tally.outline.may_post(), Decline::OutOfTurn)?;
         moves::check_post(self.tally.outline, post)?;
         check(self.may_begin(), Decline::NoRoom)
     }

@@ -1,4 +1,4 @@
-// How far a writer of a journal has come, page by page, and what its calls answer by the checks that need no book. None of it needs the bytes.
+// How far a writer of a journal has come, and what its calls answer by the checks that need no book. None of it needs the bytes.
 #![tactic(auto)]
 
 pub mod counter;

@@ -16,6 +16,7 @@ pub struct Tally {
     pub blocks: u32,
 }
 
+// That a number is free is what the checks before a step find, and so is asked of each step.
 impl Tally {
     // After a part of the set-up.
     #[tactic(auto, unfolding(crate::specs::Tally::set_up))]
@@ -74,6 +75,7 @@ impl Tally {
     }
 }
 
+// A match on what a block holds, of which there are two kinds.
 fn outline_after(o: Outline, part: SetupPart, count: u8, body: &[u8]) -> Outline
     requires { part ≡ Stage → may_describe o count ≡ true }
     ensures { result ≡ outline_after o part count body.now }

@@ -9,8 +9,11 @@ use Rattle.encoding.specs.Bytes.{le, les, part, within, all_zero}
 use Rattle.encoding.specs.Each.{sum_to, all_to, list_to}
 use Rattle.layout.specs.Outline.{fresh_outline, may_set_up}
 use Rattle.layout.specs.declared.outline.Outline.{Outline}
+use Rattle.amounts.specs.declared.treatment.Rate.{Rate}
+use Rattle.plant.specs.declared.setup.Pair.{Pair}
 use Rattle.plant.specs.declared.setup.Rates.{Rates}
 use Rattle.plant.specs.declared.setup.Setup.{Setup}
+use Rattle.plant.specs.declared.setup.Stage.{Stage}
 
 -- "8: materials, 1–12. 9: stages, 1–8."
 abbrev pub materials_in : List ℕ → ℕ
@@ -83,9 +86,15 @@ setup_checks o count body = check (may_set_up o) OutOfTurn ∷ check (eqb (lengt
 abbrev pub counted_all : List ℕ → List ℕ → List ℕ
 counted_all classes contents = list_to 96 (λ i. value_or 0 (counted_of (get_or classes (i % 8) 0) (get_or contents i 0)))
 
--- of a stage that is not described yet
+-- a stage that is not described yet, its rates and its pairs
 abbrev pub no_rates : Rates
-no_rates = record { gas_removal = 0; gas_destruction = 0; water_removal = 0; water_destruction = 0 }
+no_rates = let none : Rate = record { removal = 0; destruction = 0 } in record { gas = none; water = none }
+
+abbrev pub no_pair : Pair
+no_pair = record { to_water = false; rates = no_rates }
+
+abbrev pub no_stage : Stage
+no_stage = record { to_sewer = false; to_landfill = false }
 
 -- before any block
 abbrev pub fresh_setup : Setup
@@ -95,10 +104,8 @@ fresh_setup =
       numbers = replicate 8 0;
       classes = replicate 8 0;
       counted = replicate 96 0;
-      to_sewer = replicate 8 false;
-      to_landfill = replicate 8 false;
-      to_water = replicate 64 false;
-      rates = replicate 64 no_rates;
+      stages = replicate 8 no_stage;
+      pairs = replicate 64 no_pair;
     }
 
 abbrev pub outline_of : ℕ → List ℕ → Outline
@@ -111,10 +118,8 @@ setup_of count body =
       numbers = numbers_in body;
       classes = classes_in body;
       counted = counted_all (classes_in body) (contents_in body);
-      to_sewer = replicate 8 false;
-      to_landfill = replicate 8 false;
-      to_water = replicate 64 false;
-      rates = replicate 64 no_rates;
+      stages = replicate 8 no_stage;
+      pairs = replicate 64 no_pair;
     }
 
 -- kind 1 on a set-up: the body's set-up in place of none
@@ -125,11 +130,12 @@ set_up_on u count body = checked (setup_checks u.outline count body) (setup_of c
 -- ---- what is true of every set-up of a book
 
 -- "to 1,000,000"
+abbrev pub IsRated : Rate → Type 0
+IsRated r = (r.removal ≤ 1000000) × (r.destruction ≤ 1000000)
+
 pub record Rated (r : Rates) : Type 0 where
-  pub gas_removal : r.gas_removal ≤ 1000000
-  pub gas_destruction : r.gas_destruction ≤ 1000000
-  pub water_removal : r.water_removal ≤ 1000000
-  pub water_destruction : r.water_destruction ≤ 1000000
+  pub gas : IsRated r.gas
+  pub water : IsRated r.water
 
 pub record SoundSetup (u : Setup) : Type 0 where
   pub substances_few : u.outline.substances ≤ 8
@@ -139,8 +145,6 @@ pub record SoundSetup (u : Setup) : Type 0 where
   -- a book has stages once it has substances
   pub stages_later : u.outline.substances ≡ 0 → u.outline.stages ≡ 0
   pub counted_small : (i : ℕ) → get_or u.counted i 0 ≤ 1000000
-  pub rated : (pair : ℕ) → Rated (get_or u.rates pair no_rates)
-  pub rates_long : length u.rates ≡ 64
-  pub sides_long : length u.to_water ≡ 64
-  pub sewer_long : length u.to_sewer ≡ 8
-  pub landfill_long : length u.to_landfill ≡ 8
+  pub rated : (pair : ℕ) → Rated (get_or u.pairs pair no_pair).rates
+  pub pairs_long : length u.pairs ≡ 64
+  pub stages_long : length u.stages ≡ 8

@@ -1,14 +1,16 @@
 -- Kind 2: a stage (document 01, "Journal blocks"). The body is the block's bytes 8 to 507.
 use Rattle.std.specs.Prelude.{ℕ, ◌+◌, ◌*◌, Bool, true, false, cond, ◌&&◌, List, [], ◌∷◌, eqb, leb, length, get_or, drop, set, Ok, Err}
-use Rattle.amounts.specs.Content.{is_ppm}
+use Rattle.amounts.specs.Treatment.{is_rate}
 use Rattle.amounts.specs.Decline.{Answer, is_taken, value_or, Check, check, checked}
 use Rattle.amounts.specs.declared.decline.Decline.TheVariants.{OutOfTurn, Layout}
 use Rattle.encoding.specs.Bytes.{le, all_zero}
 use Rattle.encoding.specs.Each.{all_to, put_to}
 use Rattle.layout.specs.Outline.{with_described, may_describe}
 use Rattle.layout.specs.declared.outline.Outline.{Outline}
+use Rattle.plant.specs.declared.setup.Pair.{Pair}
 use Rattle.plant.specs.declared.setup.Rates.{Rates}
 use Rattle.plant.specs.declared.setup.Setup.{Setup}
+use Rattle.plant.specs.declared.setup.Stage.{Stage}
 
 -- a byte that names one of two cases, 1 or 2: whether it is the second; any other byte breaks the layout
 unfoldable pub second_of : ℕ → Answer Bool
@@ -41,10 +43,8 @@ unfoldable pub rates_at : List ℕ → Rates
 unfolding le
 rates_at s =
     record {
-      gas_removal = le 4 (drop 1 s);
-      gas_destruction = le 4 (drop 5 s);
-      water_removal = le 4 (drop 9 s);
-      water_destruction = le 4 (drop 13 s);
+      gas = record { removal = le 4 (drop 1 s); destruction = le 4 (drop 5 s) };
+      water = record { removal = le 4 (drop 9 s); destruction = le 4 (drop 13 s) };
     }
 
 abbrev pub rate_row : List ℕ → ℕ → Rates
@@ -52,12 +52,20 @@ rate_row s i = rates_at (drop (i * 17) s)
 
 -- "side (1 gas, 2 water)", and rates "to 1,000,000"
 abbrev pub pair_fits : Answer Bool → Rates → Bool
-pair_fits side r =
-    is_taken side
-    && (is_ppm r.gas_removal && (is_ppm r.gas_destruction && (is_ppm r.water_removal && is_ppm r.water_destruction)))
+pair_fits side r = is_taken side && (is_rate r.gas && is_rate r.water)
 
 abbrev pub all_pairs_fit : ℕ → List ℕ → Bool
 all_pairs_fit n s = all_to n (λ i. pair_fits (side_row s i) (rate_row s i))
+
+-- a pair by its side and its rates
+abbrev pub pair_of : Answer Bool → Rates → Pair
+pair_of side r = record { to_water = value_or false side; rates = r }
+
+abbrev pub pair_row : List ℕ → ℕ → Pair
+pair_row s i = pair_of (side_row s i) (rate_row s i)
+
+abbrev pub stage_of : List ℕ → Stage
+stage_of body = record { to_sewer = sewered body; to_landfill = landfilled body }
 
 -- 6: "8: 1 public water, 2 sewer. 9: residues 1 off site, 2 landfill. From 10, 17 bytes per substance"; all other bytes are zero
 abbrev pub stage_body_checks : ℕ → List ℕ → List Check
@@ -87,10 +95,8 @@ with_stage u stage body =
       numbers = u.numbers;
       classes = u.classes;
       counted = u.counted;
-      to_sewer = set u.to_sewer stage (sewered body);
-      to_landfill = set u.to_landfill stage (landfilled body);
-      to_water = put_to (λ i. stage * 8 + i) (water_row (drop 2 body)) u.to_water u.outline.substances;
-      rates = put_to (λ i. stage * 8 + i) (rate_row (drop 2 body)) u.rates u.outline.substances;
+      stages = set u.stages stage (stage_of body);
+      pairs = put_to (λ i. stage * 8 + i) (pair_row (drop 2 body)) u.pairs u.outline.substances;
     }
 
 unfoldable pub described_on : Setup → ℕ → List ℕ → Answer Setup

@@ -1,63 +1,51 @@
 // Kind 1: what a body says of the substances and the materials, its limits, and the set-up that it makes.
 ghost use Rattle.std.specs.Prelude.{◌≡◌, ◌<◌};
 ghost use Rattle.amounts.specs.Content.{counted_of};
-ghost use Rattle.amounts.specs.Decline.{checked, value_or};
+ghost use Rattle.amounts.specs.Decline.{checked, value_or, verdict_of};
 ghost use Rattle.plant.specs.Setup.{outline_of, fresh_setup, setup_of, set_up_on};
 ghost use Rattle.plant.specs.Setup.{before, rising, all_classes, row_sum, row_fits, rows_fit, material_checks, substance_checks, body_checks, setup_checks};
 
+use amounts::class::Class;
+use amounts::content;
 use amounts::decline::{Decline, check};
-use amounts::{class, content};
+use amounts::treatment::Rate;
 use encoding::bytes;
-use layout::outline;
 use layout::outline::Outline;
 use std::array;
 
-// A pair's rates in ppm, of a stage and a substance.
-#[derive(Clone, Copy, Debug, PartialEq, Eq)]
+// Of the gas and of the waste water.
+#[derive(Clone, Copy, Debug, Default, PartialEq, Eq)]
 pub struct Rates {
-    pub gas_removal: u32,
-    pub gas_destruction: u32,
-    pub water_removal: u32,
-    pub water_destruction: u32,
+    pub gas: Rate,
+    pub water: Rate,
 }
 
-// What the set-up blocks say. Contents are kept as counted: for the material m and the substance s at m * 8 + s. A pair's side, water
-// or gas, and its rates stand at stage * 8 + substance. A stage's treated water goes to the sewer or to public water, its residues to
-// landfill or off site. Of a stage that isn't described yet the flags are false and the rates 0. The flags stay flags: one reading of two
-// cases serves the three, and an enum for each would need three twins of it. Each array is one list of the specification.
+// Where a stage's treated water goes, to the sewer or to public water, and its residues, to landfill or off site. These and a pair's side are flags, since one
+// reading of two cases serves all three, and an enum for each would need a reading of its own.
+#[derive(Clone, Copy, Debug, Default, PartialEq, Eq)]
+pub struct Stage {
+    pub to_sewer: bool,
+    pub to_landfill: bool,
+}
+
+// A pair of a stage and a substance: its side, water or gas, and its rates.
+#[derive(Clone, Copy, Debug, Default, PartialEq, Eq)]
+pub struct Pair {
+    pub to_water: bool,
+    pub rates: Rates,
+}
+
+// What the set-up blocks say. Contents are kept as counted: for the material m and the substance s at m * 8 + s. A pair stands at stage * 8 + substance. Of a
+// stage that isn't described yet all is false and 0. Classes are their numbers, since any body is parsed, and stand apart from the management numbers, since a
+// post is read over these alone. Each list is one of fixed length, so that a law of it goes by one index.
 #[derive(Clone, Copy)]
 pub struct Setup {
     pub outline: Outline,
     pub numbers: [u16; 8],
     pub classes: [u8; 8],
     pub counted: [u32; 96],
-    pub to_sewer: [bool; 8],
-    pub to_landfill: [bool; 8],
-    pub to_water: [bool; 64],
-    pub rates: [Rates; 64],
-}
-
-pub const NO_RATES: Rates = Rates {
-    gas_removal: 0,
-    gas_destruction: 0,
-    water_removal: 0,
-    water_destruction: 0,
-};
-
-// The set-up before any block.
-pub fn fresh_setup() -> Setup
-    ensures { result ≡ fresh_setup }
-{
-    Setup {
-        outline: outline::fresh(),
-        numbers: [0; 8],
-        classes: [0; 8],
-        counted: [0; 96],
-        to_sewer: [false; 8],
-        to_landfill: [false; 8],
-        to_water: [false; 64],
-        rates: [NO_RATES; 64],
-    }
+    pub stages: [Stage; 8],
+    pub pairs: [Pair; 64],
 }
 
 // The number of 16 bits before the ith, and 0 before the first.
@@ -82,7 +70,7 @@ fn is_rising(s: &[u8], n: u8) -> bool
 fn all_classes(s: &[u8]) -> bool
     ensures { result ≡ all_classes s.now }
 {
-    s.iter().all(|c| class::is_class(*c))
+    s.iter().all(|c| Class::is_class(*c))
 }
 
 fn row_sum(s: &[u8]) -> u64
@@ -104,6 +92,7 @@ fn rows_fit(s: &[u8], n: u8, k: u8) -> bool
     (0..usize::from(n)).all(|i| row_fits(bytes::tail(s, i * 32), k))
 }
 
+// A class that is none counts nothing.
 fn counted_or_none(class: u8, ppm: u32) -> u32
     ensures { result ≡ value_or 0 (counted_of class ppm) }
 {
@@ -156,12 +145,13 @@ fn check_body(count: u8, body: &[u8]) -> Result<(), Decline>
     check_substances(count, body)
 }
 
-// Whether a kind 1 block's body is in its turn and within its limits, by the outline and the bytes alone.
+// Whether a kind 1 block's body is in its turn and within its limits, by the outline, which is `layout`'s, and the bytes alone. A block's count and body go
+// together loose, as its head and the rest have them.
 #[tactic(auto, unfolding(amounts::specs::Decline::checked))]
 pub fn check_setup(o: Outline, count: u8, body: &[u8]) -> Result<(), Decline>
     ensures { result ≡ checked (setup_checks o count body.now) (tt {0}) }
 {
-    check(outline::may_set_up(o), Decline::OutOfTurn)?;
+    check(o.may_set_up(), Decline::OutOfTurn)?;
     check(body.len() == 500, Decline::Layout)?;
     check_body(count, body)
 }
@@ -178,25 +168,44 @@ pub fn outline_of(count: u8, body: &[u8]) -> Outline
     }
 }
 
-// What a kind 1 block's body says, whatever its bytes are.
-pub fn parse(count: u8, body: &[u8]) -> Setup
-    ensures { result ≡ setup_of count body.now }
-{
-    let classes: [u8; 8] = array::from_fn(|i| bytes::byte_at(body, 18 + i));
-    let contents: [u32; 96] = array::from_fn(|i| bytes::le32(body, 26 + i * 4));
-    Setup {
-        outline: outline_of(count, body),
-        numbers: array::from_fn(|i| bytes::le16(body, 2 + i * 2)),
-        classes,
-        counted: array::from_fn(|i| counted_or_none(classes[i % 8], contents[i])),
-        ..fresh_setup()
+impl Setup {
+    // Before any block.
+    pub fn new() -> Setup
+        ensures { result ≡ fresh_setup }
+    {
+        Setup {
+            outline: Outline::default(),
+            numbers: [0; 8],
+            classes: [0; 8],
+            counted: [0; 96],
+            stages: [Stage::default(); 8],
+            pairs: [Pair::default(); 64],
+        }
     }
-}
 
-// The set-up with the substances and materials of a kind 1 block.
-pub fn set_up(u: &Setup, count: u8, body: &[u8]) -> Result<Setup, Decline>
-    ensures { result ≡ set_up_on u.now count body.now }
-{
-    check_setup(u.outline, count, body)?;
-    Ok(parse(count, body))
+    // What a kind 1 block's body says, whatever its bytes are.
+    pub fn parse(count: u8, body: &[u8]) -> Setup
+        ensures { result ≡ setup_of count body.now }
+    {
+        let classes: [u8; 8] = array::from_fn(|i| bytes::byte_at(body, 18 + i));
+        let contents: [u32; 96] = array::from_fn(|i| bytes::le32(body, 26 + i * 4));
+        Setup {
+            outline: outline_of(count, body),
+            numbers: array::from_fn(|i| bytes::le16(body, 2 + i * 2)),
+            classes,
+            counted: array::from_fn(|i| counted_or_none(classes[i % 8], contents[i])),
+            ..Setup::new()
+        }
+    }
+
+    // The substances and materials of a kind 1 block.
+    #[tactic(auto, using(crate::proofs::setup::Laws::set_up_declined, crate::proofs::setup::Laws::set_up_taken))]
+    pub fn set_up(&mut self, count: u8, body: &[u8]) -> Result<(), Decline>
+        ensures verdict { result ≡ verdict_of (set_up_on self.old count body.now) }
+        ensures setup { self.new ≡ value_or self.old (set_up_on self.old count body.now) }
+    {
+        check_setup(self.outline, count, body)?;
+        *self = Setup::parse(count, body);
+        Ok(())
+    }
 }

@@ -1,16 +1,16 @@
 // Kind 2: what a body says of a stage's destinations and of each substance's side and rates, its limits, and the set-up with that stage described.
-ghost use Rattle.std.specs.Prelude.{◌≡◌, false, ◌≤◌, ◌<◌, length, drop};
-ghost use Rattle.amounts.specs.Decline.{checked, value_or};
-ghost use Rattle.plant.specs.Stage.{second_of, with_stage, described_on};
-ghost use Rattle.plant.specs.Stage.{rates_at, pair_fits, all_pairs_fit, stage_body_checks, stage_checks};
+ghost use Rattle.std.specs.Prelude.{◌≡◌, false, ◌≤◌, ◌<◌, length, drop, get_or};
+ghost use Rattle.amounts.specs.Decline.{checked, value_or, verdict_of};
+ghost use Rattle.plant.specs.Stage.{second_of, stage_of, with_stage, described_on};
+ghost use Rattle.plant.specs.Stage.{rates_at, pair_of, pair_fits, all_pairs_fit, stage_body_checks, stage_checks};
 
-use crate::setup::{Rates, Setup};
+use crate::setup::{Pair, Rates, Setup, Stage};
 use amounts::decline::{Decline, check};
+use amounts::treatment::Rate;
 use encoding::bytes;
-use layout::outline;
 use layout::outline::Outline;
 
-// Whether a byte names the second of two cases, 1 and 2.
+// Whether a byte names the second of two cases, 1 and 2: one reading for three fields, which an enum for each would do three times.
 #[tactic(auto, unfolding(crate::specs::Stage::second_of))]
 fn second_of(byte: u8) -> Result<bool, Decline>
     ensures { result ≡ second_of byte }
@@ -36,21 +36,41 @@ pub fn rates_at(s: &[u8], at: usize) -> Rates
 {
     let row = bytes::tail(s, at);
     Rates {
-        gas_removal: bytes::le32(row, 1),
-        gas_destruction: bytes::le32(row, 5),
-        water_removal: bytes::le32(row, 9),
-        water_destruction: bytes::le32(row, 13),
+        gas: Rate {
+            removal: bytes::le32(row, 1),
+            destruction: bytes::le32(row, 5),
+        },
+        water: Rate {
+            removal: bytes::le32(row, 9),
+            destruction: bytes::le32(row, 13),
+        },
+    }
+}
+
+// The pair of the row that stands from a place on.
+fn pair_at(s: &[u8], at: usize) -> Pair
+    ensures { result ≡ pair_of (second_of (get_or s.now at 0)) (rates_at (drop at s.now)) }
+{
+    Pair {
+        to_water: is_second(bytes::byte_at(s, at)),
+        rates: rates_at(s, at),
+    }
+}
+
+// A stage as its body's first two bytes have it.
+fn stage_of(body: &[u8]) -> Stage
+    ensures { result ≡ stage_of body.now }
+{
+    Stage {
+        to_sewer: is_second(bytes::byte_at(body, 0)),
+        to_landfill: is_second(bytes::byte_at(body, 1)),
     }
 }
 
 fn pair_fits(side: u8, r: Rates) -> bool
     ensures { result ≡ pair_fits (second_of side) r }
 {
-    second_of(side).is_ok()
-        && r.gas_removal <= 1_000_000
-        && r.gas_destruction <= 1_000_000
-        && r.water_removal <= 1_000_000
-        && r.water_destruction <= 1_000_000
+    second_of(side).is_ok() && r.gas.is_valid() && r.water.is_valid()
 }
 
 fn all_pairs_fit(s: &[u8], n: u8) -> bool
@@ -80,37 +100,37 @@ fn check_body(substances: u8, body: &[u8]) -> Result<(), Decline>
 pub fn check_stage(o: Outline, stage: u8, body: &[u8]) -> Result<(), Decline>
     ensures { result ≡ checked (stage_checks o stage body.now) (tt {0}) }
 {
-    check(outline::may_describe(o, stage), Decline::OutOfTurn)?;
+    check(o.may_describe(stage), Decline::OutOfTurn)?;
     check(body.len() == 500, Decline::Layout)?;
     check(o.substances <= 8, Decline::Layout)?;
     check(o.stages <= 8, Decline::Layout)?;
     check_body(o.substances, body)
 }
 
-// The set-up with a stage as the body says.
-#[tactic(auto, using(crate::proofs::stage::Laws::staged_more), unfolding(encoding::specs::Each::put_to))]
-fn with_stage(u: &Setup, stage: u8, body: &[u8]) -> Setup
-    requires { (stage < 8) × (u.now.outline.substances ≤ 8) × (length body.now ≡ 500) }
-    ensures { result ≡ with_stage u.now stage body.now }
-{
-    let k = usize::from(stage);
-    let rows = bytes::tail(body, 2);
-    let mut next = *u;
-    next.outline.described = stage + 1;
-    next.to_sewer[k] = is_second(body[0]);
-    next.to_landfill[k] = is_second(body[1]);
-    for i in 0..usize::from(u.outline.substances) {
-        next.to_water[k * 8 + i] = is_second(bytes::byte_at(rows, i * 17));
-        next.rates[k * 8 + i] = rates_at(rows, i * 17);
+impl Setup {
+    // A stage as the body says. A pair's place and its row's go by one index.
+    #[tactic(auto, using(crate::proofs::stage::Laws::paired_more), unfolding(encoding::specs::Each::put_to))]
+    fn add_stage(&mut self, stage: u8, body: &[u8])
+        requires { (stage < 8) × (self.old.outline.substances ≤ 8) × (length body.now ≡ 500) }
+        ensures { self.new ≡ with_stage self.old stage body.now }
+    {
+        let k = usize::from(stage);
+        let rows = bytes::tail(body, 2);
+        for i in 0..usize::from(self.outline.substances) {
+            self.pairs[k * 8 + i] = pair_at(rows, i * 17);
+        }
+        self.stages[k] = stage_of(body);
+        self.outline.described = stage + 1;
     }
-    next
-}
 
-// The set-up with one stage more described by a kind 2 block.
-#[tactic(auto, unfolding(crate::specs::Stage::described_on))]
-pub fn describe(u: &Setup, stage: u8, body: &[u8]) -> Result<Setup, Decline>
-    ensures { result ≡ described_on u.now stage body.now }
-{
-    check_stage(u.outline, stage, body)?;
-    Ok(with_stage(u, stage, body))
+    // One stage more, described by a kind 2 block.
+    #[tactic(auto, unfolding(crate::specs::Stage::described_on))]
+    pub fn describe(&mut self, stage: u8, body: &[u8]) -> Result<(), Decline>
+        ensures verdict { result ≡ verdict_of (described_on self.old stage body.now) }
+        ensures setup { self.new ≡ value_or self.old (described_on self.old stage body.now) }
+    {
+        check_stage(self.outline, stage, body)?;
+        self.add_stage(stage, body);
+        Ok(())
+    }
 }

@@ -1,10 +1,10 @@
 -- What a post does, as one value (document 01, "Posts" and "Why a call is declined, in checking order", 6 to 9).
 use Rattle.std.specs.Prelude.{ℕ, ◌*◌, Bool, true, false, List, [], ◌∷◌, eqb, length, get_or, Ok}
-use Rattle.forms.specs.Binary64.{value_of}
 use Rattle.losses.specs.Coefficient.{row_of}
 use Rattle.amounts.specs.Decline.{Answer, check, checked, on_taken, value_or}
 use Rattle.amounts.specs.declared.decline.Decline.TheVariants.{Layout, OutOfRange}
-use Rattle.forms.specs.Form.{unused_ranges, in_ranges, in_form}
+use Rattle.forms.specs.Form.{unused_ranges, values_of, in_ranges, in_form}
+use Rattle.forms.specs.declared.form.Inputs.{Inputs}
 use Rattle.losses.specs.Loss.{loss_over}
 use Rattle.layout.specs.Posts.{post_size}
 use Rattle.layout.specs.declared.outline.Outline.{Outline}
@@ -18,9 +18,13 @@ use Rattle.kinds.specs.declared.kind.Measure.TheVariants.{Quantity, Content, Los
 use Rattle.post.specs.declared.moves.Move.{Move}
 use Rattle.post.specs.declared.moves.Move.TheVariants.{Received, Issued, Brought, Gone, Close}
 
+-- a post's four floats, by their bit patterns
+abbrev pub floats_of : Post → Inputs ℕ
+floats_of p = record { w = p.w; u = p.u; p = p.p; q = p.q }
+
 -- "an unused float has zero as its whole range, so decline 7 covers it"
 abbrev pub floats_unused : Post → Bool
-floats_unused p = in_ranges unused_ranges (value_of p.w) (value_of p.u) (value_of p.p) (value_of p.q)
+floats_unused p = in_ranges unused_ranges (values_of (floats_of p))
 
 -- 6: "A length, kind, form, index, count, limit, order or zero place breaks the layout, floats aside"
 unfoldable pub laid_out : Outline → List ℕ → Answer Row
@@ -33,7 +37,7 @@ laid_out o s =
 abbrev pub floats_fit : Measure → Post → Bool
 floats_fit Quantity p = floats_unused p
 floats_fit Content p = floats_unused p
-floats_fit Loss p = in_form p.material (value_of p.w) (value_of p.u) (value_of p.p) (value_of p.q)
+floats_fit Loss p = in_form p.material (values_of (floats_of p))
 
 -- 6 and 7 of a post's bytes, which need no book
 unfoldable pub well_formed : Outline → List ℕ → Answer Row
@@ -46,7 +50,7 @@ unfoldable pub measured : Measure → List ℕ → Post → Answer ℕ
 measured Quantity numbers p = Ok p.quantity
 measured Content numbers p = Ok (p.quantity * p.content)
 measured Loss numbers p =
-    loss_over p.material (row_of (get_or numbers p.substance 0)) (value_of p.w) (value_of p.u) (value_of p.p) (value_of p.q)
+    loss_over p.material (row_of (get_or numbers p.substance 0)) (values_of (floats_of p))
 
 -- what a kind does with its amount: "1 opening, 2 bought: material, g"; "3 issued: material, stage, g"; 4 to 12 and 14: at a stage, of a substance; "13 close"
 abbrev pub move_of : Does → Post → ℕ → Move

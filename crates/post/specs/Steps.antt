@@ -2,7 +2,7 @@
 use Rattle.std.specs.Prelude.{ℕ, ◌*◌, ◌≤◌, ◌<◌, List, [], ◌∷◌, get_or, Ok, Err}
 use Rattle.amounts.specs.Decline.{Answer, check, checked}
 use Rattle.amounts.specs.declared.decline.Decline.TheVariants.{OutOfRange}
-use Rattle.forms.specs.Binary64.{value_of}
+use Rattle.forms.specs.Form.{values_of}
 use Rattle.losses.specs.Coefficient.{row_of}
 use Rattle.losses.specs.Loss.{loss_over}
 use Rattle.layout.specs.declared.outline.Outline.{Outline}
@@ -10,7 +10,7 @@ use Rattle.kinds.specs.Kind.{Row}
 use Rattle.kinds.specs.declared.fields.Post.{Post}
 use Rattle.kinds.specs.declared.kind.Measure.{Measure}
 use Rattle.kinds.specs.declared.kind.Measure.TheVariants.{Quantity, Content, Loss}
-use Rattle.post.specs.Moves.{floats_unused}
+use Rattle.post.specs.Moves.{floats_of, floats_unused}
 use Rattle.post.specs.declared.moves.Laid.{Laid}
 use Rattle.post.specs.declared.moves.Move.{Move}
 use Rattle.post.specs.declared.moves.Move.TheVariants.{Received, Issued, Brought, Gone, Close}
@@ -31,7 +31,7 @@ unfolding checked
 amount_read Quantity numbers p = checked (check (floats_unused p) OutOfRange ∷ []) p.quantity
 amount_read Content numbers p = checked (check (floats_unused p) OutOfRange ∷ []) (p.quantity * p.content)
 amount_read Loss numbers p =
-    loss_over p.material (row_of (get_or numbers p.substance 0)) (value_of p.w) (value_of p.u) (value_of p.p) (value_of p.q)
+    loss_over p.material (row_of (get_or numbers p.substance 0)) (values_of (floats_of p))
 
 -- ---- what is true of every move that bytes tell, by an outline
 

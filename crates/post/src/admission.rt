@@ -5,13 +5,15 @@ ghost use Rattle.post.specs.Admission.{has_room, admitted};
 use crate::moves;
 use crate::moves::Move;
 use amounts::decline::{Decline, check};
-use layout::outline;
 use layout::outline::Outline;
 
-fn has_room(posts: u32, m: Move) -> bool
-    ensures { result ≡ has_room posts m }
-{
-    moves::closes(m) || posts < 4000
+impl Move {
+    // Behind so many posts.
+    fn has_room(self, posts: u32) -> bool
+        ensures { result ≡ has_room posts self }
+    {
+        self.closes() || posts < 4000
+    }
 }
 
 // The move of a post of any bytes that passes 4 to 10.
@@ -25,9 +27,9 @@ pub fn admit(
 ) -> Result<Move, Decline>
     ensures { result ≡ admitted o numbers.now closed posts s.now }
 {
-    check(outline::may_post(o), Decline::OutOfTurn)?;
+    check(o.may_post(), Decline::OutOfTurn)?;
     check(!closed, Decline::Closed)?;
     let m = moves::read_move(o, numbers, s)?;
-    check(has_room(posts, m), Decline::Full)?;
+    check(m.has_room(posts), Decline::Full)?;
     Ok(m)
 }

@@ -4,7 +4,7 @@ ghost use Rattle.amounts.specs.Decline.{check, checked, verdict_of};
 ghost use Rattle.amounts.specs.declared.decline.Decline.TheVariants.{OutOfRange};
 ghost use Rattle.kinds.specs.Fields.{post_at};
 ghost use Rattle.kinds.specs.declared.kind.Measure.TheVariants.{Content};
-ghost use Rattle.post.specs.Moves.{floats_unused, floats_fit, move_of, laid_out, well_formed, move_at, closes};
+ghost use Rattle.post.specs.Moves.{floats_of, floats_unused, floats_fit, move_of, laid_out, well_formed, move_at, closes};
 ghost use Rattle.post.specs.Steps.{laid_of, amount_read};
 
 use amounts::decline::{Decline, check};
@@ -12,14 +12,15 @@ use forms::form::Inputs;
 use forms::{form, pattern};
 use kinds::account::Account;
 use kinds::fields::Post;
+use kinds::kind;
 use kinds::kind::{Does, Measure};
-use kinds::{fields, kind};
 use layout::outline::Outline;
 use layout::posts::POST_SIZE;
 use losses::loss;
 
 // Received into a store; issued from a store to a stage's holdings; brought to an account from outside; gone from a holding to an
-// account; the close. Grams of a material, micrograms of a substance.
+// account; the close. Grams of a material, micrograms of a substance. What is brought and what is gone have the same fields: one struct for both would be taken apart
+// at each match.
 #[derive(Clone, Copy, Debug, PartialEq, Eq)]
 pub enum Move {
     Received {
@@ -54,8 +55,9 @@ struct Laid {
     does: Does,
 }
 
+// A post's floats are kept loose, since `kinds` doesn't stand on `forms`; and neither type is of this crate, so that there is no `From`.
 fn floats_of(p: Post) -> Inputs<u64>
-    ensures { result ≡ record { w = p.w; u = p.u; p = p.p; q = p.q } }
+    ensures { result ≡ floats_of p }
 {
     Inputs {
         w: p.w,
@@ -144,7 +146,7 @@ fn read_post(o: Outline, s: &[u8]) -> Result<Laid, Decline>
     ensures { result ≡ laid_of (post_at s.now) (laid_out o s.now) }
 {
     check(s.len() == POST_SIZE, Decline::Layout)?;
-    let post = fields::decode(s);
+    let post = Post::decode(s);
     let kind = kind::kind_of(o, post.kind)?;
     check(kind.limits.admit(&post), Decline::Layout)?;
     Ok(Laid {
@@ -173,9 +175,11 @@ pub fn read_move(o: Outline, numbers: &[u16], s: &[u8]) -> Result<Move, Decline>
     Ok(laid.move_of(amount))
 }
 
-// Whether no post follows.
-pub fn closes(m: Move) -> bool
-    ensures { result ≡ closes m }
-{
-    matches!(m, Move::Close)
+impl Move {
+    // Whether no post follows.
+    pub fn closes(self) -> bool
+        ensures { result ≡ closes self }
+    {
+        matches!(self, Move::Close)
+    }
 }

@@ -1,6 +1,7 @@
 -- What a program in another language gets of an answer: document 01's number, and values in the places that it lends.
 use Rattle.std.specs.Prelude.{ℕ, Bool, cond, List, leb, length, Ok, Err}
 use Rattle.amounts.specs.Decline.{Answer, number}
+use Rattle.text.specs.Writing.{most_bytes}
 
 -- the number of the decline, or 0
 abbrev pub number_of : {A : Type 0} → Answer A → ℕ
@@ -16,6 +17,6 @@ lent part before (Err n) = before
 abbrev pub one_or_zero : Bool → ℕ
 one_or_zero t = cond t 1 0
 
--- the length of a text that is written where so many bytes are lent, and 0 where they are fewer
-unfoldable pub length_in : ℕ → List ℕ → List ℕ → ℕ
-length_in free out text = cond (leb free (length out)) (length text) 0
+-- the length of a text where a buffer with room for the longest is lent, and 0 where it is shorter
+unfoldable pub length_in : List ℕ → List ℕ → ℕ
+length_in out text = cond (leb most_bytes (length out)) (length text) 0

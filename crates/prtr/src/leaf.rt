@@ -1,6 +1,7 @@
-// The calculations of the first library. Each that can decline returns 0 or document 01's number, and writes only where it returns 0.
+// The calculations of `amounts` and `losses`. Each that can decline returns 0 or document 01's number, and writes only where it returns 0.
+// The C interface has each value and each place loose, and a decline by number.
 ghost use Rattle.std.specs.Prelude.{◌≡◌};
-ghost use Rattle.forms.specs.Binary64.{value_of};
+ghost use Rattle.forms.specs.Form.{values_of};
 ghost use Rattle.amounts.specs.Content.{counted_of};
 ghost use Rattle.amounts.specs.Filed.{case_of, step_of, filed_of};
 ghost use Rattle.losses.specs.Loss.{vapour_of};
@@ -12,7 +13,7 @@ use amounts::content::counted_content;
 use amounts::decline::Decline;
 use amounts::filed;
 use amounts::threshold::is_due;
-use amounts::treatment::split_total;
+use amounts::treatment::{Rate, split_total};
 use forms::form::Inputs;
 use losses::loss::vapour_loss;
 
@@ -54,7 +55,13 @@ pub extern "C" fn prtr_split(
     ensures destroyed_after { destroyed.new ≡ lent (λ p. p.destroyed) destroyed.old (split_of total removal destruction) }
     ensures residue_after { residue.new ≡ lent (λ p. p.residue) residue.old (split_of total removal destruction) }
 {
-    match split_total(total, removal, destruction) {
+    match split_total(
+        total,
+        Rate {
+            removal,
+            destruction,
+        },
+    ) {
         Ok(parts) => {
             *released = parts.released;
             *destroyed = parts.destroyed;
@@ -112,8 +119,8 @@ pub extern "C" fn prtr_loss(
     q: u64,
     micrograms: &mut u64,
 ) -> u8
-    ensures value { result ≡ number_of (vapour_of form number (value_of w) (value_of u) (value_of p) (value_of q)) }
-    ensures micrograms_after { micrograms.new ≡ lent (λ n. n) micrograms.old (vapour_of form number (value_of w) (value_of u) (value_of p) (value_of q)) }
+    ensures value { result ≡ number_of (vapour_of form number (values_of (record { w = w; u = u; p = p; q = q }))) }
+    ensures micrograms_after { micrograms.new ≡ lent (λ n. n) micrograms.old (vapour_of form number (values_of (record { w = w; u = u; p = p; q = q }))) }
 {
     lend(vapour_loss(form, number, Inputs { w, u, p, q }), micrograms)
 }

@@ -1,7 +1,11 @@
 -- A writer's calls as records in bytes, "a tag byte, a length in 16 bits, and that many bytes" (docs/FORMAT.md, "The program `write`").
-use Rattle.std.specs.Prelude.{ℕ, zero, suc, ◌+◌, Bool, cond, List, [], ◌∷◌, eqb, leb, length, get_or, take, drop}
+use Rattle.std.specs.Prelude.{ℕ, zero, suc, ◌+◌, ◌<◌, ◌≡◌, Bool, cond, List, [], ◌∷◌, eqb, leb, length, get_or, take, drop, Option, MatchOption, Result, Ok, Err}
 use Rattle.encoding.specs.Bytes.{le}
 use Rattle.pages.specs.Calls.{Call, set_up, post, end}
+use Rattle.records.specs.declared.record.Record.{Record}
+use Rattle.records.specs.declared.record.Records.{Records}
+use Rattle.records.specs.declared.refusal.Refusal.{Refusal}
+use Rattle.records.specs.declared.refusal.Refusal.TheVariants.{Malformed}
 
 -- a call, or bytes that are none
 pub data Recorded : Type 0 where
@@ -54,3 +58,15 @@ records_to (suc n) s = cond (eqb (length s) 0) [] (first_of s ∷ behind (first_
 
 abbrev pub records_in : List ℕ → List Recorded
 records_in s = records_to (length s) s
+
+-- ---- the records of bytes, as they are read one by one
+
+-- the first record where it is there as a whole, or why it isn't
+abbrev pub IsFirst : List ℕ → Result Record Refusal → Type 0
+IsFirst s (Ok r) = first_of s ≡ record_of r.tag r.body.now
+IsFirst s (Err why) = (first_of s ≡ malformed) × (why ≡ Malformed)
+
+-- a step gives the first record of the bytes that are left, and leaves those behind it; where none are left it gives none
+abbrev pub GivesRecord : Records → Option (Result Record Refusal) → Records → Type 0
+GivesRecord a next b =
+    MatchOption next (length a.rest.now ≡ 0) (λ r. (0 < length a.rest.now) × IsFirst a.rest.now r × (b.rest.now ≡ rest_of a.rest.now))

@@ -3,10 +3,10 @@ ghost use Rattle.std.specs.Prelude.{◌≡◌};
 ghost use Rattle.records.specs.Batch.{written_in, end_of, left_in};
 ghost use Rattle.records.specs.Recorder.{TakesAll};
 
+use crate::call;
+use crate::record::Records;
 use crate::recorder::Recorder;
 use crate::refusal::Refusal;
-use crate::{call, record};
-use encoding::bytes;
 use pages::counter::Counter;
 use writer::writer::Writer;
 
@@ -21,12 +21,8 @@ pub struct Stopped {
 fn take_all<R: Recorder>(recorder: &mut R, records: &[u8]) -> Result<usize, Stopped>
     ensures { TakesAll R.lent R.is_at records.now recorder.old recorder.new result }
 {
-    let mut rest = records;
-    let mut place = 0;
-    while !rest.is_empty() {
-        call::take_first(recorder, rest).map_err(|refusal| Stopped { refusal, place })?;
-        rest = bytes::tail(rest, record::span_of(rest));
-        place += 1;
+    for (place, record) in Records::new(records).enumerate() {
+        call::take_next(recorder, record).map_err(|refusal| Stopped { refusal, place })?;
     }
     Ok(recorder.end())
 }

@@ -1,9 +1,9 @@
 // A record as a call of a writer.
-ghost use Rattle.records.specs.Records.{record_of, first_of};
-ghost use Rattle.records.specs.Batch.{record_on};
+ghost use Rattle.records.specs.Records.{record_of};
+ghost use Rattle.records.specs.Batch.{record_on, next_on};
 ghost use Rattle.records.specs.Recorder.{Follows};
 
-use crate::record;
+use crate::record::Record;
 use crate::recorder::Recorder;
 use crate::refusal::Refusal;
 use encoding::bytes;
@@ -12,6 +12,7 @@ use encoding::bytes;
 pub fn take<R: Recorder>(recorder: &mut R, tag: u8, s: &[u8]) -> Result<(), Refusal>
     ensures { Follows R.lent R.is_at (λ p. record_on p (record_of tag s.now)) recorder.old recorder.new result }
 {
+    // A tag is read nowhere else, so each letter stands here alone, and not in an enum.
     match tag {
         // A set-up block.
         b'S' => recorder.set_up(
@@ -30,13 +31,13 @@ pub fn take<R: Recorder>(recorder: &mut R, tag: u8, s: &[u8]) -> Result<(), Refu
     Ok(())
 }
 
-// The first record of bytes.
-#[tactic(auto, using(crate::proofs::record::Laws::first_short, crate::proofs::record::Laws::first_complete))]
-pub(crate) fn take_first<R: Recorder>(recorder: &mut R, s: &[u8]) -> Result<(), Refusal>
-    ensures { Follows R.lent R.is_at (λ p. record_on p (first_of s.now)) recorder.old recorder.new result }
+// The next record of a list, where it is there as a whole.
+pub(crate) fn take_next<R: Recorder>(
+    recorder: &mut R,
+    next: Result<Record<'_>, Refusal>,
+) -> Result<(), Refusal>
+    ensures { Follows R.lent R.is_at (λ p. next_on p next.entry) recorder.old recorder.new result }
 {
-    if record::span_of(s) > s.len() {
-        return Err(Refusal::Malformed);
-    }
-    take(recorder, s[0], record::bytes_of(s))
+    let Record { tag, body } = next?;
+    take(recorder, tag, body)
 }

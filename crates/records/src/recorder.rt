@@ -27,6 +27,7 @@ pub trait Recorder {
         ensures filled { (p : Page) → is_at self.new p → result ≡ p.filled };
 }
 
+// Each call is the counter's own, and below the writer's: the trait asks for them by name.
 impl Recorder for Counter {
     ghost is_at = { λ counter p. Reached counter.room counter.tally p };
 

@@ -4,6 +4,8 @@ ghost use Rattle.records.specs.Refusal.{number};
 ghost use Rattle.records.specs.declared.refusal.Refusal.TheVariants.{Declined};
 
 use amounts::decline::Decline;
+use std::error::Error;
+use std::fmt;
 
 #[derive(Clone, Copy, Debug, PartialEq, Eq)]
 pub enum Refusal {
@@ -32,3 +34,20 @@ impl Refusal {
         }
     }
 }
+
+// The decline's number, or that the record is malformed.
+impl fmt::Display for Refusal {
+    ghost use Rattle.std.specs.Prelude.{Some};
+    ghost use Rattle.records.specs.Refusal.{text_of};
+
+    ghost output = { λ refusal. Some (text_of refusal) };
+
+    fn fmt<W: fmt::Write>(&self, f: &mut fmt::Formatter<W>) -> fmt::Result {
+        match self {
+            Refusal::Declined(decline) => write!(f, "{decline}"),
+            Refusal::Malformed => write!(f, "malformed"),
+        }
+    }
+}
+
+impl Error for Refusal {}

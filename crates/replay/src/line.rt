@@ -1,6 +1,5 @@
 // The lines. A field of a report has a space before it.
 use amounts::decline::Decline;
-use report::fate::Headings;
 use report::report::Report;
 use std::io;
 use std::io::Write;
@@ -11,31 +10,15 @@ pub(crate) fn verdict<W: Write>(
     call: &str,
     answer: Result<(), Decline>,
 ) -> io::Result<()> {
-    let number = match answer {
-        Ok(()) => 0,
-        Err(decline) => decline.number(),
-    };
-    writeln!(out, "{call} {number}")
+    writeln!(out, "{call} {}", answer.err().map_or(0, Decline::number))
 }
 
 pub(crate) fn stock<W: Write>(out: &mut W, answer: Result<i64, Decline>) -> io::Result<()> {
     match answer {
         Ok(0) => writeln!(out, "stock 0"),
         Ok(grams) => writeln!(out, "stock {grams:+}"),
-        Err(decline) => writeln!(out, "stock declined {}", decline.number()),
+        Err(decline) => writeln!(out, "stock declined {decline}"),
     }
-}
-
-fn headings<W: Write>(out: &mut W, h: Headings) -> io::Result<()> {
-    let Headings {
-        air,
-        water,
-        soil,
-        land,
-        sewer,
-        offsite,
-    } = h;
-    write!(out, " {air} {water} {soil} {land} {sewer} {offsite}")
 }
 
 fn known<W: Write>(out: &mut W, r: Report) -> io::Result<()> {
@@ -55,12 +38,11 @@ fn known<W: Write>(out: &mut W, r: Report) -> io::Result<()> {
         " {} {} {} {}",
         fate.held, fate.shipped, fate.consumed, fate.destroyed
     )?;
-    headings(out, fate.headings)?;
+    write!(out, " {}", fate.headings)?;
     match filed {
-        Some(figures) => headings(out, figures)?,
-        None => write!(out, " - - - - - -")?,
+        Some(figures) => writeln!(out, " {figures}"),
+        None => writeln!(out, " - - - - - -"),
     }
-    writeln!(out)
 }
 
 pub(crate) fn report<W: Write>(
@@ -71,6 +53,6 @@ pub(crate) fn report<W: Write>(
     write!(out, "report {place}")?;
     match answer {
         Ok(report) => known(out, report),
-        Err(decline) => writeln!(out, " {}", decline.number()),
+        Err(decline) => writeln!(out, " {decline}"),
     }
 }

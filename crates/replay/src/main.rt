@@ -12,7 +12,7 @@ use streams::output::Output;
 use streams::record::RecordError;
 use streams::trouble::Trouble;
 
-/// Up to the end of the input, or to a record that is malformed or no call.
+/// Up to the end of the input, or to a record that is malformed or no call. Each record is read into the same space, which no iterator lends out.
 fn run<R: Read, W: Write>(from: &mut R, to: &mut W) -> Result<(), Trouble> {
     let mut book = Book::new();
     let mut input = Input::new(from);

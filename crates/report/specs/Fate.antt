@@ -1,9 +1,10 @@
 -- The fate of a substance: what a report shows of it but the store (document 01, "Treatment and report").
-use Rattle.std.specs.Prelude.{ℕ, ◌+◌, ◌*◌, Bool, false, cond, List, get_or}
+use Rattle.std.specs.Prelude.{ℕ, ◌+◌, ◌*◌, Bool, cond, List, ◌++◌, get_or, codes}
+use Rattle.std.specs.Fmt.{decimal}
 use Rattle.amounts.specs.Treatment.{parts_of}
 use Rattle.amounts.specs.declared.treatment.Parts.{Parts}
 use Rattle.encoding.specs.Each.{sum_to}
-use Rattle.plant.specs.Setup.{no_rates}
+use Rattle.plant.specs.Setup.{no_pair, no_stage}
 use Rattle.plant.specs.declared.setup.Rates.{Rates}
 use Rattle.plant.specs.declared.setup.Setup.{Setup}
 use Rattle.kinds.specs.declared.account.Account.TheVariants.{Held, Shipped, OffSite, Landfill, Soil, Consumed, Gas, Water, Vapour}
@@ -28,7 +29,7 @@ to_off_site landfill n = cond landfill 0 n
 
 -- the rates of a stage and a substance
 abbrev pub rates_of : Setup → ℕ → ℕ → Rates
-rates_of u stage s = get_or u.rates (stage * 8 + s) no_rates
+rates_of u stage s = (get_or u.pairs (stage * 8 + s) no_pair).rates
 
 -- the year's totals of a stage and a substance, by account
 abbrev pub cells_of : List ℕ → ℕ → ℕ → Cells
@@ -68,10 +69,12 @@ fate_from c g w sewer landfill =
 -- the split of the gas and of the waste water, each by its own rates: "made on the year's totals, at the report"
 abbrev pub fate_for : Cells → Rates → Bool → Bool → Fate
 fate_for c r sewer landfill =
-    fate_from c (parts_of c.gas r.gas_removal r.gas_destruction) (parts_of c.water r.water_removal r.water_destruction) sewer landfill
+    fate_from c (parts_of c.gas r.gas.removal r.gas.destruction) (parts_of c.water r.water.removal r.water.destruction) sewer landfill
 
 abbrev pub stage_fate : List ℕ → Setup → ℕ → ℕ → Fate
-stage_fate sums u s stage = fate_for (cells_of sums stage s) (rates_of u stage s) (get_or u.to_sewer stage false) (get_or u.to_landfill stage false)
+stage_fate sums u s stage =
+    let goes = get_or u.stages stage no_stage in
+    fate_for (cells_of sums stage s) (rates_of u stage s) goes.to_sewer goes.to_landfill
 
 -- "Per substance, over all stages": here over the first n
 unfoldable pub fate_to : List ℕ → Setup → ℕ → ℕ → Fate
@@ -103,3 +106,11 @@ weigh x = x.held + x.shipped + x.consumed + x.destroyed + six_of x.headings
 abbrev pub map_headings : (ℕ → ℕ) → Headings → Headings
 map_headings f h =
     record { air = f h.air; water = f h.water; soil = f h.soil; land = f h.land; sewer = f h.sewer; offsite = f h.offsite }
+
+-- behind a space
+abbrev field : ℕ → List ℕ
+field n = codes " " ++ decimal n
+
+-- six headings as a line of `replay` has them, in micrograms
+abbrev pub text_of : Headings → List ℕ
+text_of h = decimal h.air ++ (field h.water ++ (field h.soil ++ (field h.land ++ (field h.sewer ++ field h.offsite))))

@@ -1,14 +1,14 @@
 // The fate of a substance: what a report shows of it but the store, at a stage and over all stages.
 ghost use Rattle.std.specs.Prelude.{◌≡◌, ◌^◌, ◌≤◌, ◌<◌};
 ghost use Rattle.amounts.specs.Treatment.{parts_of};
-ghost use Rattle.book.specs.Ledger.{total};
-ghost use Rattle.plant.specs.Setup.{Rated, SoundSetup};
-ghost use Rattle.report.specs.Fate.{to_sewer, to_public_water, rates_of, cells_of, fate_from, stage_fate, fate_to, weigh};
+ghost use Rattle.book.specs.Site.{Sound};
+ghost use Rattle.report.specs.Fate.{to_sewer, to_public_water, cells_of, fate_from, stage_fate, fate_to, weigh};
 
-use amounts::treatment::{Parts, split_total};
+use amounts::treatment::{Parts, Rate, split_total};
+use book::site::{Book, Year};
 use kinds::account::Account;
-use plant::setup::Setup;
-use std::ops::Add;
+use plant::setup::Stage;
+use std::fmt;
 
 // What is released under the six headings of a return, in micrograms.
 #[derive(Clone, Copy, Debug, Default, PartialEq, Eq)]
@@ -22,8 +22,9 @@ pub struct Headings {
 }
 
 impl Headings {
-    ghost use Rattle.std.specs.Prelude.{◌≡◌};
-    ghost use Rattle.report.specs.Steps.{EachHeading};
+    ghost use Rattle.std.specs.Prelude.{◌≡◌, ◌+◌, ◌^◌, ◌<◌};
+    ghost use Rattle.report.specs.Fate.{six_of};
+    ghost use Rattle.report.specs.Steps.{EachHeading, add_headings};
 
     // Each heading through a function.
     pub(crate) fn map<F: Fn(u64) -> u64>(self, f: F) -> Headings
@@ -39,20 +40,12 @@ impl Headings {
             offsite: f(self.offsite),
         }
     }
-}
 
-impl Add for Headings {
-    ghost use Rattle.std.specs.Prelude.{◌≡◌, ◌+◌, ◌^◌, ◌<◌};
-    ghost use Rattle.report.specs.Fate.{six_of};
-    ghost use Rattle.report.specs.Steps.{add_headings};
-
-    type Output = Headings;
-
-    ghost can_add = { λ x y. six_of x + six_of y < 2 ^ 64 };
-
-    ghost add_gives = { λ x y r. r ≡ add_headings x y };
-
-    fn add(self, other: Headings) -> Headings {
+    // Heading by heading. It is private and no `Add`: a public operator may ask nothing of its callers, and the sums must fit.
+    fn plus(self, other: Headings) -> Headings
+        requires { six_of self + six_of other < 2 ^ 64 }
+        ensures { result ≡ add_headings self other }
+    {
         Headings {
             air: self.air + other.air,
             water: self.water + other.water,
@@ -61,6 +54,27 @@ impl Add for Headings {
             sewer: self.sewer + other.sewer,
             offsite: self.offsite + other.offsite,
         }
+    }
+}
+
+// Micrograms in the order of the fields, with a space between two.
+impl fmt::Display for Headings {
+    ghost use Rattle.std.specs.Prelude.{Some};
+    ghost use Rattle.report.specs.Fate.{text_of};
+
+    ghost output = { λ h. Some (text_of h) };
+
+    #[tactic(auto, using(std::proofs::Common::append_assoc))]
+    fn fmt<W: fmt::Write>(&self, f: &mut fmt::Formatter<W>) -> fmt::Result {
+        let Headings {
+            air,
+            water,
+            soil,
+            land,
+            sewer,
+            offsite,
+        } = *self;
+        write!(f, "{air} {water} {soil} {land} {sewer} {offsite}")
     }
 }
 
@@ -74,24 +88,22 @@ pub struct Fate {
     pub headings: Headings,
 }
 
-impl Add for Fate {
+impl Fate {
     ghost use Rattle.std.specs.Prelude.{◌≡◌, ◌+◌, ◌^◌, ◌<◌};
     ghost use Rattle.report.specs.Fate.{weigh};
     ghost use Rattle.report.specs.Steps.{add_fates};
 
-    type Output = Fate;
-
-    ghost can_add = { λ x y. weigh x + weigh y < 2 ^ 64 };
-
-    ghost add_gives = { λ x y r. r ≡ add_fates x y };
-
-    fn add(self, other: Fate) -> Fate {
+    // As of headings.
+    fn plus(self, other: Fate) -> Fate
+        requires { weigh self + weigh other < 2 ^ 64 }
+        ensures { result ≡ add_fates self other }
+    {
         Fate {
             held: self.held + other.held,
             shipped: self.shipped + other.shipped,
             consumed: self.consumed + other.consumed,
             destroyed: self.destroyed + other.destroyed,
-            headings: self.headings + other.headings,
+            headings: self.headings.plus(other.headings),
         }
     }
 }
@@ -110,12 +122,13 @@ struct Cells {
     vapour: u64,
 }
 
-fn cells_of(sums: &[u64; 576], stage: usize, s: usize) -> Cells
+// The place is worked out as in `book::ledger`, whose own function asks that it is there and so is private to its crate.
+fn cells_of(year: &Year, stage: usize, s: usize) -> Cells
     requires { (stage < 8) × (s < 8) }
-    ensures { result ≡ cells_of sums.now stage s }
+    ensures { result ≡ cells_of year.now.sums stage s }
 {
     let pair = stage * 8 + s;
-    let cell = |account: Account| sums[account as usize * 64 + pair];
+    let cell = |account: Account| year.sums[account as usize * 64 + pair];
     Cells {
         held: cell(Account::Held),
         shipped: cell(Account::Shipped),
@@ -129,13 +142,13 @@ fn cells_of(sums: &[u64; 576], stage: usize, s: usize) -> Cells
     }
 }
 
-// A split at rates that a set-up has, which is never declined.
+// A split at rates that a set-up has, which is never declined: the one place that tells.
 #[tactic(auto, unfolding(amounts::specs::Treatment::split_of, amounts::specs::Decline::checked))]
-fn parts_of(total: u64, removal: u32, destruction: u32) -> Parts
-    requires { (removal ≤ 1000000) × (destruction ≤ 1000000) }
-    ensures { result ≡ parts_of total removal destruction }
+fn parts_of(total: u64, rate: Rate) -> Parts
+    requires { (rate.removal ≤ 1000000) × (rate.destruction ≤ 1000000) }
+    ensures { result ≡ parts_of total rate.removal rate.destruction }
 {
-    split_total(total, removal, destruction).unwrap()
+    split_total(total, rate).unwrap()
 }
 
 // An amount goes to the first of two destinations, or to the second.
@@ -170,33 +183,34 @@ fn fate_from(c: Cells, gas: Parts, water: Parts, sewered: bool, landfilled: bool
     }
 }
 
-fn stage_fate(sums: &[u64; 576], setup: &Setup, s: usize, stage: usize) -> Fate
-    requires places { (stage < 8) × (s < 8) }
-    requires sound_setup { SoundSetup setup.now }
-    requires fits { weigh (stage_fate sums.now setup.now s stage) < 2 ^ 64 }
-    ensures { result ≡ stage_fate sums.now setup.now s stage }
+// The rates of a book's set-up are within the whole, and no heading passes 64 bits, since the book is sound.
+#[tactic(auto, using(crate::proofs::fate::Laws::rates_fit, crate::proofs::fate::Laws::stage_fits))]
+fn stage_fate(b: &Book, s: usize, stage: usize) -> Fate
+    requires { (stage < 8) × (s < 8) }
+    ensures value { result ≡ stage_fate b.now.year.sums b.now.setup s stage }
+    ensures sound { Sound b.now }
 {
-    let c = cells_of(sums, stage, s);
-    let r = setup.rates[stage * 8 + s];
-    fate_from(
-        c,
-        parts_of(c.gas, r.gas_removal, r.gas_destruction),
-        parts_of(c.water, r.water_removal, r.water_destruction),
-        setup.to_sewer[stage],
-        setup.to_landfill[stage],
-    )
+    let setup = b.setup();
+    let cells = cells_of(b.year(), stage, s);
+    let rates = setup.pairs[stage * 8 + s].rates;
+    let Stage {
+        to_sewer,
+        to_landfill,
+    } = setup.stages[stage];
+    let gas = parts_of(cells.gas, rates.gas);
+    let water = parts_of(cells.water, rates.water);
+    fate_from(cells, gas, water, to_sewer, to_landfill)
 }
 
 // Over all stages, added up.
 #[tactic(auto, using(crate::proofs::fate::Laws::fate_none, crate::proofs::fate::Laws::fate_more, crate::proofs::fate::Laws::fates_fit))]
-pub(crate) fn fate_to(sums: &[u64; 576], setup: &Setup, s: usize) -> Fate
-    requires sound_setup { SoundSetup setup.now }
-    requires fits { (s < 8) × (total sums.now s < 2 ^ 64) }
-    ensures { result ≡ fate_to sums.now setup.now s 8 }
+pub(crate) fn fate_to(b: &Book, s: usize) -> Fate
+    requires { s < 8 }
+    ensures { result ≡ fate_to b.now.year.sums b.now.setup s 8 }
 {
     let mut fate = Fate::default();
     for stage in 0..8usize {
-        fate = fate + stage_fate(sums, setup, s, stage);
+        fate = fate.plus(stage_fate(b, s, stage));
     }
     fate
 }

@@ -1,17 +1,16 @@
 // The report of a substance.
 ghost use Rattle.std.specs.Prelude.{◌≡◌, ◌^◌, ◌<◌};
-ghost use Rattle.book.specs.Site.{stored_to, SoundYear};
-ghost use Rattle.plant.specs.Setup.{SoundSetup};
-ghost use Rattle.report.specs.Report.{filing_of, report_in, report_of};
+ghost use Rattle.book.specs.Site.{stored_to};
+ghost use Rattle.report.specs.Report.{filing_of, report_at, report_of};
 
 use crate::fate::{Fate, Headings, fate_to};
 use amounts::decline::{Decline, check};
 use amounts::filed::filed_figure;
 use amounts::threshold::is_due;
-use book::site::{Book, Year};
-use plant::setup::Setup;
+use book::site::Book;
 
-// Amounts are in micrograms. That a substance is due is said beside its filed figures, which only such a one has: theorems name both.
+// Amounts are in micrograms. That a substance is due stands beside its filed figures, which only such a one has, since a report says both; read off the figures, it
+// would be no plainer.
 #[derive(Clone, Copy, Debug, PartialEq, Eq)]
 pub struct Report {
     pub posts: u32,
@@ -42,17 +41,18 @@ fn filing_of(due: bool, headings: Headings) -> Option<Headings>
     due.then(|| headings.map(filed_figure))
 }
 
-// The report of a substance that the set-up has.
-#[tactic(auto, using(crate::proofs::report::Laws::total_fits, crate::proofs::report::Laws::stored_fits))]
-fn report_in(setup: &Setup, year: &Year, place: usize) -> Report
-    requires sound_setup { SoundSetup setup.now }
-    requires sound_year { SoundYear setup.now year.now }
-    requires place_lt_substances { place < setup.now.outline.substances }
-    ensures { result ≡ report_in setup.now year.now place }
+// The report of a substance that the book has.
+#[tactic(auto, using(crate::proofs::report::Laws::stored_fits))]
+fn report_at(b: &Book, place: usize) -> Report
+    requires { place < b.now.setup.outline.substances }
+    ensures { result ≡ report_at b.now place }
 {
+    let setup = b.setup();
+    let year = b.year();
     let handled = year.handled[place];
+    // A class that is none is never due.
     let due = is_due(setup.classes[place], handled).unwrap_or(false);
-    let fate = fate_to(&year.sums, setup, place);
+    let fate = fate_to(b, place);
     Report {
         posts: year.posts,
         number: setup.numbers[place],
@@ -69,10 +69,9 @@ fn report_in(setup: &Setup, year: &Year, place: usize) -> Report
 pub fn report_of(b: &Book, place: usize) -> Result<Report, Decline>
     ensures { result ≡ report_of b.now place }
 {
-    let setup = b.setup();
     check(
-        place < setup.outline.substances as usize,
+        place < usize::from(b.setup().outline.substances),
         Decline::NoSubstance,
     )?;
-    Ok(report_in(setup, b.year(), place))
+    Ok(report_at(b, place))
 }

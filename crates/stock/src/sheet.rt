@@ -13,7 +13,7 @@ const MOST: u64 = 8_000_000_000_000;
 pub fn difference_of(b: &Book, material: usize, grams: u64) -> Result<i64, Decline>
     ensures { result ≡ stock_of b.now material grams }
 {
-    let materials = b.setup().outline.materials as usize;
+    let materials = usize::from(b.setup().outline.materials);
     check(grams <= MOST && material < materials, Decline::StockCount)?;
     Ok(grams as i64 - b.year().store[material] as i64)
 }

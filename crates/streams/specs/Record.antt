@@ -19,9 +19,9 @@ pub record IsHeadOf (head : List ℕ) (r : Record) : Type 0 where
 abbrev pub IsCut : List ℕ → Type 0
 IsCut bytes = (0 < length bytes) × (length bytes < 3 + size_of bytes)
 
--- a head whose record has no room
+-- a head whose record has no room, though 16 bits hold its length
 abbrev pub IsTooLong : ℕ → List ℕ → Type 0
-IsTooLong room head = (length head ≡ 3) × (room < size_of head)
+IsTooLong room head = (length head ≡ 3) × (room < size_of head) × (size_of head < 65536)
 
 -- what a record takes of an input of known bytes: its head and body, which has room; nothing at the end; where it is malformed or a read failed, some
 abbrev pub RecordTook : Option (List ℕ) → Option (List ℕ) → ℕ → Result (Option Record) RecordError → Type 0

@@ -64,7 +64,7 @@ fn read_once<R: Read>(from: &mut R, free: &mut [u8]) -> io::Result<usize>
     retry(&mut || from.read(free))
 }
 
-/// Reads until the part is full or the input ends.
+/// Reads until the part is full or the input ends. The loop goes on by what a read gave, and no iterator has that.
 #[tactic(auto, using(crate::proofs::input::Laws::took_more))]
 fn fill<R: Read>(from: &mut R, part: &mut [u8]) -> io::Result<usize>
     ensures bound { ReadsAtMost result part.new }

@@ -1,4 +1,4 @@
-// What every program does with its input and output: parts and records are read, bytes are written, and a line tells which of the two failed.
+// What every program does with its input and output: parts and records are read, bytes are written, and a text tells which of the two failed.
 #![tactic(auto)]
 
 pub mod input;

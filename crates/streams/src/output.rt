@@ -67,7 +67,7 @@ impl<W: Write> Write for Output<W> {
         flushed
     }
 
-    /// A write that a signal interrupts has failed, and isn't tried again.
+    /// A write that a signal interrupts has failed, and isn't tried again. The loop goes on by what a write took, and no iterator has that.
     fn write_all(&mut self, bytes: &[u8]) -> io::Result<()>
         ensures bytes { OnOk result (Appends (bytes_in W.contents self.old) (bytes_in W.contents self.new) bytes.now) }
         ensures told { has_failed self.new ≡ is_err result }

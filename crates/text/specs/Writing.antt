@@ -1,14 +1,14 @@
--- A text written into a lent buffer at a place.
-use Rattle.std.specs.Prelude.{ℕ, ◌+◌, ◌≡◌, cond, List, leb, length, Option, Some, None}
-use Rattle.encoding.specs.Bytes.{written}
+-- A text at the start of a lent buffer.
+use Rattle.std.specs.Prelude.{ℕ, cond, List, ◌++◌, leb, length, drop, Option, Some, None}
 
--- what stands in the buffer after a call that writes only where so many bytes are free, and what it answers
-unfoldable pub tried_in : ℕ → List ℕ → ℕ → List ℕ → List ℕ
-tried_in free l at text = cond (leb (at + free) (length l)) (written l at text) l
+-- No text is longer: the title has 56 bytes, and each of at most eight lines no more than 160. A buffer has to have as many for a text of any length.
+abbrev pub most_bytes : ℕ
+most_bytes = 1336
 
-unfoldable pub tried_answer : ℕ → List ℕ → ℕ → List ℕ → Option ℕ
-tried_answer free l at text = cond (leb (at + free) (length l)) (Some (at + length text)) None
+-- a buffer that a text is copied into: the text at its start and behind it what was there, or where the buffer is too short all of what was there
+unfoldable pub copied_into : List ℕ → List ℕ → List ℕ
+copied_into out text = cond (leb most_bytes (length out)) (text ++ drop (length text) out) out
 
-pub record Tries (free : ℕ) (l : List ℕ) (at : ℕ) (text m : List ℕ) (r : Option ℕ) : Type 0 where
-  pub text_in : m ≡ tried_in free l at text
-  pub answer : r ≡ tried_answer free l at text
+-- the length of the text that was copied, and none where the buffer is too short
+unfoldable pub length_copied : List ℕ → List ℕ → Option ℕ
+length_copied out text = cond (leb most_bytes (length out)) (Some (length text)) None

@@ -1,4 +1,4 @@
-// The text of the return, in ASCII, written into a buffer that the caller lends.
+// The text of the return, in ASCII, and its copy in a buffer that the caller lends.
 #![tactic(auto)]
 
 pub mod line;

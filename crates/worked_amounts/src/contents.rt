@@ -1,18 +1,16 @@
 // Counted content: the class and the ppm, and what counts.
 use crate::line;
-use std::io::Stdout;
+use crate::line::Answer;
+use amounts::content::counted_content;
+use std::io::{Print, Stdout};
 
 fn counted(out: Stdout, class: u8, ppm: u32) {
-    line::number(out, class);
-    line::number(out, ppm);
-    line::answer(
-        out,
-        amounts::content::counted_content(class, ppm).map(u64::from),
-    );
+    let answer = Answer(counted_content(class, ppm));
+    let _ = println!(out; "{class} {ppm} {answer}");
 }
 
 pub(crate) fn show_all(out: Stdout) {
-    line::text(out, b"contents: class ppm, counted\n");
+    line::title(out, "contents: class ppm, counted");
     // Document 000, 1.1.3: from 10,000 ppm in class 1 and from 1,000 ppm in class 2.
     counted(out, 1, 9_999);
     counted(out, 1, 10_000);

@@ -1,6 +1,7 @@
 // The filed figure: an amount in micrograms, the number of its case, its step, and the figure.
 use crate::line;
-use std::io::Stdout;
+use amounts::filed::{case_of, filed_figure, step_of};
+use std::io::{Print, Stdout};
 
 const AMOUNTS: [u64; 62] = [
     // Slips of the trade.
@@ -79,15 +80,14 @@ const AMOUNTS: [u64; 62] = [
 ];
 
 fn show(out: Stdout, amount: u64) {
-    let case = amounts::filed::case_of(amount);
-    line::number(out, amount);
-    line::number(out, case.number);
-    line::number(out, amounts::filed::step_of(amount));
-    line::last(out, amounts::filed::filed_figure(amount));
+    let case = case_of(amount).number;
+    let step = step_of(amount);
+    let figure = filed_figure(amount);
+    let _ = println!(out; "{amount} {case} {step} {figure}");
 }
 
 pub(crate) fn show_all(out: Stdout) {
-    line::text(out, b"figures: amount, case, step, figure\n");
+    line::title(out, "figures: amount, case, step, figure");
     for amount in AMOUNTS {
         show(out, amount);
     }

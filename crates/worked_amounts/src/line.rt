@@ -1,33 +1,23 @@
-// The parts of a line: numbers and patterns, each with a space behind it, and the answer, which ends the line.
+// What lines say. `worked_book` has an `Answer` too: a program isn't linked by another, and one short type is no library.
 use amounts::decline::Decline;
-use std::fmt::Display;
+use std::fmt;
+use std::fmt::{Display, Formatter, Write};
 use std::io::{Print, Stdout};
 
-pub(crate) fn text(out: Stdout, bytes: &[u8]) {
-    let _ = Print::write_all(&out, bytes);
+// The line over a group of cases.
+pub(crate) fn title(out: Stdout, title: &str) {
+    let _ = println!(out; "{title}");
 }
 
-pub(crate) fn number(out: Stdout, n: impl Display + Drop) {
-    let _ = print!(out; "{n} ");
-}
+// What was asked for, or its decline.
+#[derive(Drop)]
+pub(crate) struct Answer<T>(pub Result<T, Decline>);
 
-// The bits of a float, in 16 digits.
-pub(crate) fn pattern(out: Stdout, bits: u64) {
-    let _ = print!(out; "{bits:016x} ");
-}
-
-pub(crate) fn last(out: Stdout, n: impl Display + Drop) {
-    let _ = println!(out; "{n}");
-}
-
-pub(crate) fn declined(out: Stdout, decline: Decline) {
-    let _ = println!(out; "declined {}", decline.number());
-}
-
-// The number that was asked for, or its decline.
-pub(crate) fn answer(out: Stdout, answer: Result<u64, Decline>) {
-    match answer {
-        Ok(n) => last(out, n),
-        Err(d) => declined(out, d),
+impl<T: Display> Display for Answer<T> {
+    fn fmt<W: Write>(&self, f: &mut Formatter<W>) -> fmt::Result {
+        match &self.0 {
+            Ok(value) => write!(f, "{value}"),
+            Err(decline) => write!(f, "declined {decline}"),
+        }
     }
 }

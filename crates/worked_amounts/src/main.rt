@@ -4,6 +4,7 @@
 mod contents;
 mod figures;
 mod line;
+mod patterns;
 mod readings;
 mod splits;
 mod thresholds;
@@ -12,8 +13,11 @@ mod vapour;
 fn main(rt: HostRuntime) {
     let out = rt.stdout();
     vapour::worked(out);
-    vapour::order_and_first_ends(out);
-    vapour::other_ends(out);
+    vapour::operation_orders(out);
+    vapour::pressures(out);
+    vapour::floating_roof_ends(out);
+    vapour::fixed_roof_ends(out);
+    vapour::station_ends(out);
     vapour::odd_floats(out);
     vapour::declines(out);
     figures::show_all(out);

@@ -1,17 +1,21 @@
 // A float read from its bits, in a range from 0 that has no end, and its whole part.
 use crate::line;
-use forms::pattern::Range;
-use losses::whole;
-use std::io::Stdout;
+use crate::line::Answer;
+use crate::patterns::{
+    BELOW_ONE, BELOW_ZERO, INFINITY, LEAST, MINUS_INFINITY, MINUS_ZERO, NAN, ONE, ZERO,
+};
+use forms::pattern::{Range, read_float};
+use losses::whole::whole_part;
+use std::io::{Print, Stdout};
 
 const PATTERNS: [u64; 21] = [
     // Zero of either sign, and the least float.
-    0x0000000000000000,
-    0x8000000000000000,
-    0x0000000000000001,
+    ZERO,
+    MINUS_ZERO,
+    LEAST,
     // About 1, and the float below 2.
-    0x3fefffffffffffff,
-    0x3ff0000000000000,
+    BELOW_ONE,
+    ONE,
     0x3fffffffffffffff,
     // 2^52 - 0.5, the largest float with a fraction, and 2^52.
     0x432fffffffffffff,
@@ -28,11 +32,11 @@ const PATTERNS: [u64; 21] = [
     0x43f0000000000000,
     0x7fefffffffffffff,
     // 7: infinities and a NaN, though the range has no end, and two floats below 0.
-    0x7ff0000000000000,
-    0xfff0000000000000,
-    0x7ff8000000000000,
+    INFINITY,
+    MINUS_INFINITY,
+    NAN,
     0xbff0000000000000,
-    0x8000000000000001,
+    BELOW_ZERO,
 ];
 
 // A range from 0 that has no end.
@@ -42,15 +46,12 @@ const FROM_ZERO: Range = Range {
 };
 
 fn show(out: Stdout, bits: u64) {
-    line::pattern(out, bits);
-    line::answer(
-        out,
-        forms::pattern::read_float(bits, FROM_ZERO).map(whole::whole_part),
-    );
+    let answer = Answer(read_float(bits, FROM_ZERO).map(whole_part));
+    let _ = println!(out; "{bits:016x} {answer}");
 }
 
 pub(crate) fn show_all(out: Stdout) {
-    line::text(out, b"readings: pattern, whole part in a range from 0\n");
+    line::title(out, "readings: pattern, whole part in a range from 0");
     for bits in PATTERNS {
         show(out, bits);
     }

@@ -1,25 +1,42 @@
 // The treatment split: a total in micrograms, the removal and the destruction in ppm, and the three parts.
 use crate::line;
-use std::io::Stdout;
+use crate::line::Answer;
+use amounts::treatment::{Parts, Rate, split_total};
+use std::fmt;
+use std::fmt::{Display, Formatter, Write};
+use std::io::{Print, Stdout};
 
-fn split(out: Stdout, total: u64, removal: u32, destruction: u32) {
-    line::number(out, total);
-    line::number(out, removal);
-    line::number(out, destruction);
-    match amounts::treatment::split_total(total, removal, destruction) {
-        Ok(parts) => {
-            line::number(out, parts.released);
-            line::number(out, parts.destroyed);
-            line::last(out, parts.residue);
-        }
-        Err(d) => line::declined(out, d),
+// The parts in the order of the line.
+#[derive(Clone, Copy)]
+struct InOrder(Parts);
+
+impl Display for InOrder {
+    fn fmt<W: Write>(&self, f: &mut Formatter<W>) -> fmt::Result {
+        let Parts {
+            released,
+            destroyed,
+            residue,
+        } = self.0;
+        write!(f, "{released} {destroyed} {residue}")
     }
 }
 
+fn split(out: Stdout, total: u64, removal: u32, destruction: u32) {
+    let answer = Answer(split_total(
+        total,
+        Rate {
+            removal,
+            destruction,
+        },
+    )
+    .map(InOrder));
+    let _ = println!(out; "{total} {removal} {destruction} {answer}");
+}
+
 pub(crate) fn show_all(out: Stdout) {
-    line::text(
+    line::title(
         out,
-        b"splits: total removal destruction, released destroyed residue\n",
+        "splits: total removal destruction, released destroyed residue",
     );
     // What is removed and not destroyed leaves as residue.
     // F12.

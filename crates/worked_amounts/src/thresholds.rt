@@ -1,19 +1,16 @@
 // The threshold: the class and the micrograms handled, and whether the substance is due.
 use crate::line;
-use std::io::Stdout;
+use crate::line::Answer;
+use amounts::threshold::is_due;
+use std::io::{Print, Stdout};
 
 fn due(out: Stdout, class: u8, handled: u64) {
-    line::number(out, class);
-    line::number(out, handled);
-    match amounts::threshold::is_due(class, handled) {
-        Ok(true) => line::text(out, b"Y\n"),
-        Ok(false) => line::text(out, b"N\n"),
-        Err(d) => line::declined(out, d),
-    }
+    let answer = Answer(is_due(class, handled).map(|due| if due { 'Y' } else { 'N' }));
+    let _ = println!(out; "{class} {handled} {answer}");
 }
 
 pub(crate) fn show_all(out: Stdout) {
-    line::text(out, b"thresholds: class handled, due\n");
+    line::title(out, "thresholds: class handled, due");
     // One microgram below the threshold is not due, though it rounds to it.
     due(out, 1, 999_999_999_999);
     due(out, 1, 1_000_000_000_000);

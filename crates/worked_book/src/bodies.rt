@@ -1,76 +1,149 @@
 // The bodies of set-up blocks, and the blocks.
-ghost use Rattle.std.specs.Prelude.{◌+◌, ◌≤◌, ◌<◌};
+ghost use Rattle.std.specs.Prelude.{◌<◌};
 
+use amounts::decline::Decline;
+use amounts::treatment::Rate;
+use book::site::Book;
 use encoding::bytes;
 use layout::frame;
+use plant::setup::Rates;
+use std::io::{Print, Stdout};
 
-fn put<const N: usize>(body: &mut [u8; 500], at: usize, given: [u8; N])
-    requires { at + N ≤ 500 }
+// Where a stage's treated water goes.
+#[derive(Clone, Copy)]
+pub(crate) enum Water {
+    Public = 1,
+    Sewer = 2,
+}
+
+// Where a stage's residues go.
+#[derive(Clone, Copy)]
+pub(crate) enum Residues {
+    OffSite = 1,
+    Landfill = 2,
+}
+
+// What the close moves a holding to.
+#[derive(Clone, Copy)]
+pub(crate) enum Side {
+    Gas = 1,
+    WasteWater = 2,
+}
+
+// In the order of a body's bytes: by name, as `Rates` has them, a call would be ten lines.
+pub(crate) fn rates(
+    gas_removal: u32,
+    gas_destruction: u32,
+    water_removal: u32,
+    water_destruction: u32,
+) -> Rates {
+    Rates {
+        gas: Rate {
+            removal: gas_removal,
+            destruction: gas_destruction,
+        },
+        water: Rate {
+            removal: water_removal,
+            destruction: water_destruction,
+        },
+    }
+}
+
+// A place of a body and the byte that it is to have.
+#[derive(Clone, Copy)]
+pub(crate) struct Change {
+    pub at: usize,
+    pub byte: u8,
+    ghost within: { at < 500 },
+}
+
+#[derive(Clone, Copy)]
+pub(crate) struct Body {
+    pub bytes: [u8; 500],
+}
+
+impl Body {
+    fn begun(first: u8, second: u8) -> Body {
+        let mut bytes = [0; 500];
+        bytes[0] = first;
+        bytes[1] = second;
+        Body { bytes }
+    }
+
+    // Kind 1, by the counts of materials and stages.
+    pub(crate) fn of_plant(materials: u8, stages: u8) -> Body {
+        Body::begun(materials, stages)
+    }
+
+    // Kind 2.
+    pub(crate) fn of_stage(water: Water, residues: Residues) -> Body {
+        Body::begun(water as u8, residues as u8)
+    }
+
+    pub(crate) fn substance(mut self, place: usize, number: u16, class: u8) -> Body
+        requires { place < 8 }
+    {
+        bytes::put(&mut self.bytes, 2 + place * 2, &number.to_le_bytes());
+        self.bytes[18 + place] = class;
+        self
+    }
+
+    pub(crate) fn content(mut self, material: usize, place: usize, ppm: u32) -> Body
+        requires { (material < 12) × (place < 8) }
+    {
+        let at = 26 + material * 32 + place * 4;
+        bytes::put(&mut self.bytes, at, &ppm.to_le_bytes());
+        self
+    }
+
+    // A substance's side and rates.
+    pub(crate) fn treated(mut self, place: usize, side: Side, r: Rates) -> Body
+        requires { place < 8 }
+    {
+        let at = 2 + place * 17;
+        self.bytes[at] = side as u8;
+        bytes::put(&mut self.bytes, at + 1, &r.gas.removal.to_le_bytes());
+        bytes::put(&mut self.bytes, at + 5, &r.gas.destruction.to_le_bytes());
+        bytes::put(&mut self.bytes, at + 9, &r.water.removal.to_le_bytes());
+        bytes::put(&mut self.bytes, at + 13, &r.water.destruction.to_le_bytes());
+        self
+    }
+
+    pub(crate) fn untreated(self, place: usize, side: Side) -> Body
+        requires { place < 8 }
+    {
+        self.treated(place, side, rates(0, 0, 0, 0))
+    }
+
+    pub(crate) fn changed(mut self, change: Change) -> Body {
+        self.bytes[change.at] = change.byte;
+        self
+    }
+
+    // Gives the book the block of a kind that is next.
+    fn give(&self, book: &mut Book, kind: u8, count: u8) -> Result<(), Decline> {
+        let mut block = [0; 512];
+        bytes::put(&mut block, 8, &self.bytes);
+        // A block has two bytes for its number.
+        let number = (book.block_number() % 65_536) as u16;
+        book.take_block(&frame::framed(block, kind, count, number))
+    }
+
+    pub(crate) fn set_up(&self, book: &mut Book, count: u8) -> Result<(), Decline> {
+        self.give(book, 1, count)
+    }
+
+    pub(crate) fn describe(&self, book: &mut Book, place: u8) -> Result<(), Decline> {
+        self.give(book, 2, place)
+    }
+}
+
+// Gives the good body with each change alone, behind what is changed.
+pub(crate) fn try_changes<F: Fn(&Body)>(out: Stdout, good: Body, changes: &[Change], give: F)
+    requires { F.IsAlwaysCallable give }
 {
-    body[at..at + N].copy_from_slice(&given);
-}
-
-// The first two bytes: of kind 1 the counts of materials and stages, of kind 2 where water and residues go.
-pub(crate) fn begun(first: u8, second: u8) -> [u8; 500] {
-    let mut body = [0u8; 500];
-    body[0] = first;
-    body[1] = second;
-    body
-}
-
-// Kind 1.
-pub(crate) fn substance(given: [u8; 500], place: usize, number: u16, class: u8) -> [u8; 500]
-    requires { place < 8 }
-{
-    let mut body = given;
-    put(&mut body, 2 + place * 2, number.to_le_bytes());
-    body[18 + place] = class;
-    body
-}
-
-pub(crate) fn content(given: [u8; 500], material: usize, place: usize, ppm: u32) -> [u8; 500]
-    requires { (material < 12) × (place < 8) }
-{
-    let mut body = given;
-    put(&mut body, 26 + material * 32 + place * 4, ppm.to_le_bytes());
-    body
-}
-
-// Kind 2: a substance's side, and the removal and destruction of its gas and of its water.
-pub(crate) fn treated(
-    given: [u8; 500],
-    place: usize,
-    side: u8,
-    gas: u32,
-    gas_destroyed: u32,
-    water: u32,
-    water_destroyed: u32,
-) -> [u8; 500]
-    requires { place < 8 }
-{
-    let mut body = given;
-    let at = 2 + place * 17;
-    body[at] = side;
-    put(&mut body, at + 1, gas.to_le_bytes());
-    put(&mut body, at + 5, gas_destroyed.to_le_bytes());
-    put(&mut body, at + 9, water.to_le_bytes());
-    put(&mut body, at + 13, water_destroyed.to_le_bytes());
-    body
-}
-
-// A block of a kind, with its number and check sums.
-pub(crate) fn framed(kind: u8, count: u8, number: u32, body: &[u8; 500]) -> [u8; 512] {
-    let mut block = [0u8; 512];
-    let low = (number % 256) as u8;
-    let high = (number / 256 % 256) as u8;
-    bytes::put(
-        &mut block,
-        0,
-        &[b'P', b'R', b'T', b'R', kind, count, low, high],
-    );
-    bytes::put(&mut block, 8, body);
-    let sums = frame::check_sums(&block);
-    bytes::put(&mut block, 508, &sums.plain.to_le_bytes());
-    bytes::put(&mut block, 510, &sums.weighted.to_le_bytes());
-    block
+    for change in changes {
+        let _ = print!(out; "byte {} {} ", change.at, change.byte);
+        give(&good.changed(*change));
+    }
 }

@@ -4,7 +4,8 @@
 //   of the second 0 are as many and 8×10^12 all more. A gram above that, 2^64 - 1 and a third material are declined by 14;
 //   a full book: 4,000 posts of 2,000,000,000 bought of the second are 8×10^12 in store, of which 0 counted are all less.
 use crate::desk::Desk;
-use crate::{line, posts, sites};
+use crate::posts::{bought, close, issued, opening};
+use crate::{line, sites};
 use book::site::Book;
 use std::io::Stdout;
 
@@ -40,34 +41,33 @@ fn first(d: &Desk) {
 
 // Before and after the kind 1 block, with posts, and closed. The book isn't altered: the reports are as before the counts.
 pub(crate) fn counted(out: Stdout) {
-    line::text(out, b"counts on a fresh book\n");
+    line::title(out, "counts on a fresh book");
     none_counted(&Desk::on(out, Book::new()));
-    line::text(out, b"counts on a book with no stage described\n");
+    line::title(out, "counts on a book with no stage described");
     none_counted(&Desk::on(out, sites::set_up()));
-    line::text(out, b"counts against a store\n");
+    line::title(out, "counts against a store");
     let mut d = Desk::on(out, sites::described());
-    d.post(1, 0, 0, 0, 0, 3_000);
-    d.post(2, 0, 0, 0, 0, 2_500);
-    d.post(3, 0, 1, 0, 0, 1_200);
+    d.post(opening(0, 3_000));
+    d.post(bought(0, 2_500));
+    d.post(issued(0, 1, 1_200));
     d.reports();
     first(&d);
     second(&d);
     d.stock(2, 0);
     d.reports();
-    d.close();
+    d.post(close());
     first(&d);
 }
 
 // 4,000 posts, and the close past them.
 pub(crate) fn full(out: Stdout) {
-    line::text(out, b"counts on a full book\n");
-    let p = posts::of(2, 1, 0, 0, 0, 2_000_000_000);
+    line::title(out, "counts on a full book");
     let mut book = sites::described();
-    sites::repeat(&mut book, p, 4_000);
+    sites::repeat(&mut book, bought(1, 2_000_000_000), 4_000);
     let mut d = Desk::on(out, book);
     d.reports();
     second(&d);
-    d.close();
+    d.post(close());
     second(&d);
     d.stock(0, MOST);
 }

@@ -1,11 +1,13 @@
 // A book on which the library's calls are made, each with its line.
-use crate::{bodies, line, posts};
+use crate::bodies::Body;
+use crate::line::{Answer, Difference, Fields, Shown, verdict};
+use crate::posts;
 use book::site::Book;
 use kinds::fields::Post;
 use plant::setup::check_setup;
 use plant::stage::check_stage;
 use report::report::report_of;
-use std::io::Stdout;
+use std::io::{Print, Stdout};
 use stock::sheet::difference_of;
 
 #[derive(Drop)]
@@ -19,73 +21,41 @@ impl Desk {
         Desk { out, book }
     }
 
-    pub(crate) fn give(&mut self, p: Post) {
-        line::post(self.out, p);
-        let answer = self.book.take_post(&posts::encode(p));
-        line::verdict(self.out, answer);
-    }
-
-    // Kind, material, stage, substance, content and quantity.
-    pub(crate) fn post(&mut self, k: u8, m: u8, t: u8, s: u8, content: u32, quantity: u64) {
-        self.give(posts::of(k, m, t, s, content, quantity));
-    }
-
-    // Form, stage, substance and floats.
-    pub(crate) fn vapour(&mut self, form: u8, t: u8, s: u8, w: u64, u: u64, p: u64, q: u64) {
-        self.give(posts::with_floats(posts::of(12, form, t, s, 0, 0), w, u, p, q));
-    }
-
-    pub(crate) fn close(&mut self) {
-        self.post(13, 0, 0, 0, 0, 0);
+    pub(crate) fn post(&mut self, p: Post) {
+        let answer = verdict(self.book.take_post(&posts::encode(p)));
+        let _ = println!(self.out; "post {}: {answer}", Fields(p));
     }
 
     // A post of any bytes, named by how many they are.
     pub(crate) fn bytes(&mut self, s: &[u8]) {
-        line::text(self.out, b"bytes");
-        line::number(self.out, s.len() as u64);
-        let answer = self.book.take_post(s);
-        line::verdict(self.out, answer);
+        let answer = verdict(self.book.take_post(s));
+        let _ = println!(self.out; "bytes {}: {answer}", s.len());
     }
 
-    // A block of a kind with its number and check sums.
-    fn framed(&mut self, kind: u8, count: u8, body: &[u8; 500]) {
-        line::number(self.out, count as u64);
-        let block = bodies::framed(kind, count, self.book.block_number(), body);
-        let answer = self.book.take_block(&block);
-        line::verdict(self.out, answer);
+    pub(crate) fn set_up(&mut self, count: u8, body: &Body) {
+        let answer = verdict(body.set_up(&mut self.book, count));
+        let _ = println!(self.out; "set-up {count}: {answer}");
     }
 
-    pub(crate) fn set_up(&mut self, count: u8, body: &[u8; 500]) {
-        line::text(self.out, b"set-up");
-        self.framed(1, count, body);
-    }
-
-    pub(crate) fn describe(&mut self, place: u8, body: &[u8; 500]) {
-        line::text(self.out, b"stage");
-        self.framed(2, place, body);
+    pub(crate) fn describe(&mut self, place: u8, body: &Body) {
+        let answer = verdict(body.describe(&mut self.book, place));
+        let _ = println!(self.out; "stage {place}: {answer}");
     }
 
     // A body that is no block's, by its layout alone.
     pub(crate) fn set_up_of(&self, count: u8, body: &[u8]) {
-        line::text(self.out, b"set-up");
-        line::number(self.out, count as u64);
-        line::verdict(
-            self.out,
-            check_setup(self.book.setup().outline, count, body),
-        );
+        let answer = verdict(check_setup(self.book.setup().outline, count, body));
+        let _ = println!(self.out; "set-up {count}: {answer}");
     }
 
     pub(crate) fn describe_of(&self, place: u8, body: &[u8]) {
-        line::text(self.out, b"stage");
-        line::number(self.out, place as u64);
-        line::verdict(
-            self.out,
-            check_stage(self.book.setup().outline, place, body),
-        );
+        let answer = verdict(check_stage(self.book.setup().outline, place, body));
+        let _ = println!(self.out; "stage {place}: {answer}");
     }
 
     pub(crate) fn report(&self, place: usize) {
-        line::report(self.out, place, report_of(&self.book, place));
+        let answer = Answer(report_of(&self.book, place).map(Shown));
+        let _ = println!(self.out; "report {place}: {answer}");
     }
 
     // Two substances.
@@ -96,11 +66,7 @@ impl Desk {
 
     // The grams counted of a material.
     pub(crate) fn stock(&self, material: usize, grams: u64) {
-        line::stock(
-            self.out,
-            material,
-            grams,
-            difference_of(&self.book, material, grams),
-        );
+        let answer = Answer(difference_of(&self.book, material, grams).map(Difference));
+        let _ = println!(self.out; "stock {material} {grams}: {answer}");
     }
 }

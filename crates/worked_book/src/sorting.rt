@@ -6,29 +6,36 @@
 //     1,000 kg off site, the step being 100.
 //   400: found 500,000 × 999,999 = 499,999,500,000 and 499,999 × 1, which makes 499,999,999,999, a microgram below 500 kg: not due.
 //   Nothing is held before or after, so that the close moves nothing.
+use crate::bodies::{Body, Residues, Side, Water};
 use crate::desk::Desk;
-use crate::{bodies, line};
+use crate::line;
+use crate::posts::{close, found};
 use book::site::Book;
 use std::io::Stdout;
 
 pub(crate) fn year(out: Stdout) {
-    line::text(out, b"a sorting site\n");
-    let body = bodies::substance(bodies::begun(1, 2), 0, 80, 1);
-    let body = bodies::substance(body, 1, 400, 2);
+    line::title(out, "a sorting site");
+    let plant = Body::of_plant(1, 2)
+        .substance(0, 80, 1)
+        .substance(1, 400, 2);
+    let first = Body::of_stage(Water::Public, Residues::Landfill)
+        .untreated(0, Side::Gas)
+        .untreated(1, Side::Gas);
+    let second = Body::of_stage(Water::Sewer, Residues::OffSite)
+        .untreated(0, Side::WasteWater)
+        .untreated(1, Side::WasteWater);
     let mut d = Desk::on(out, Book::new());
-    d.set_up(2, &body);
-    let body = bodies::treated(bodies::begun(1, 2), 0, 1, 0, 0, 0, 0);
-    d.describe(0, &bodies::treated(body, 1, 1, 0, 0, 0, 0));
-    let body = bodies::treated(bodies::begun(2, 1), 0, 2, 0, 0, 0, 0);
-    d.describe(1, &bodies::treated(body, 1, 2, 0, 0, 0, 0));
-    d.post(14, 0, 0, 0, 450_000, 2_000_000);
-    d.post(14, 0, 1, 0, 21_649, 4_619_151);
-    d.post(14, 0, 0, 1, 999_999, 500_000);
-    d.post(14, 0, 1, 1, 1, 499_999);
+    d.set_up(2, &plant);
+    d.describe(0, &first);
+    d.describe(1, &second);
+    d.post(found(0, 0, 450_000, 2_000_000));
+    d.post(found(1, 0, 21_649, 4_619_151));
+    d.post(found(0, 1, 999_999, 500_000));
+    d.post(found(1, 1, 1, 499_999));
     d.reports();
-    d.post(14, 0, 1, 0, 1, 1);
+    d.post(found(1, 0, 1, 1));
     d.reports();
-    d.close();
-    d.post(14, 0, 1, 1, 1, 1);
+    d.post(close());
+    d.post(found(1, 1, 1, 1));
     d.reports();
 }

@@ -1,84 +1,60 @@
 // Kind 2: a body that is taken, each rule of its layout broken alone, and stages out of their turn.
+use crate::bodies::{Change, Side, rates};
 use crate::desk::Desk;
+use crate::posts::opening;
 use crate::{bodies, line, sites};
 use book::site::Book;
-use std::io::Stdout;
+use plant::setup::Rates;
+use std::io::{Print, Stdout};
 
-// A byte of the good body with what it is changed to.
-#[derive(Clone, Copy)]
-struct Case(usize, u8);
-
-const CASES: [Case; 18] = [
+const CHANGES: [Change; 18] = [
     // Where water and residues go.
-    Case(0, 1),
-    Case(0, 0),
-    Case(0, 2),
-    Case(0, 3),
-    Case(1, 0),
-    Case(1, 1),
-    Case(1, 3),
+    Change { at: 0, byte: 1 },
+    Change { at: 0, byte: 0 },
+    Change { at: 0, byte: 2 },
+    Change { at: 0, byte: 3 },
+    Change { at: 1, byte: 0 },
+    Change { at: 1, byte: 1 },
+    Change { at: 1, byte: 3 },
     // Sides.
-    Case(2, 0),
-    Case(2, 2),
-    Case(2, 3),
-    Case(19, 0),
-    Case(19, 1),
-    Case(19, 255),
+    Change { at: 2, byte: 0 },
+    Change { at: 2, byte: 2 },
+    Change { at: 2, byte: 3 },
+    Change { at: 19, byte: 0 },
+    Change { at: 19, byte: 1 },
+    Change { at: 19, byte: 255 },
     // A third and an eighth substance, and bytes not named.
-    Case(36, 1),
-    Case(37, 1),
-    Case(137, 1),
-    Case(138, 1),
-    Case(499, 1),
+    Change { at: 36, byte: 1 },
+    Change { at: 37, byte: 1 },
+    Change { at: 137, byte: 1 },
+    Change { at: 138, byte: 1 },
+    Change { at: 499, byte: 1 },
 ];
 
-fn try_case(out: Stdout, case: Case) {
-    let mut body = sites::stage();
-    let at = case.0;
-    if at < 500 {
-        body[at] = case.1;
-    }
-    line::text(out, b"byte");
-    line::number(out, at as u64);
-    line::number(out, case.1 as u64);
-    line::text(out, b" ");
-    Desk::on(out, sites::set_up()).describe(0, &body);
-}
-
-pub(crate) fn cases(out: Stdout) {
-    line::text(out, b"stages\n");
-    for case in CASES {
-        try_case(out, case);
-    }
+pub(crate) fn changes(out: Stdout) {
+    line::title(out, "stages");
+    bodies::try_changes(out, sites::stage(), &CHANGES, |body| {
+        Desk::on(out, sites::set_up()).describe(0, body)
+    });
 }
 
 // The second substance's rates.
-fn rated(out: Stdout, gas: u32, gas_destroyed: u32, water: u32, water_destroyed: u32) {
-    let body = bodies::treated(
-        sites::stage(),
-        1,
-        2,
-        gas,
-        gas_destroyed,
-        water,
-        water_destroyed,
+fn rated(out: Stdout, r: Rates) {
+    let body = sites::stage().treated(1, Side::WasteWater, r);
+    let _ = print!(out;
+        "rates {} {} {} {} ",
+        r.gas.removal, r.gas.destruction, r.water.removal, r.water.destruction
     );
-    line::text(out, b"rates");
-    line::number(out, gas as u64);
-    line::number(out, gas_destroyed as u64);
-    line::number(out, water as u64);
-    line::number(out, water_destroyed as u64);
-    line::text(out, b" ");
     Desk::on(out, sites::set_up()).describe(0, &body);
 }
 
-pub(crate) fn rates(out: Stdout) {
-    rated(out, 1_000_000, 1_000_000, 1_000_000, 1_000_000);
-    rated(out, 1_000_001, 0, 0, 0);
-    rated(out, 0, 1_000_001, 0, 0);
-    rated(out, 0, 0, 1_000_001, 0);
-    rated(out, 0, 0, 0, 1_000_001);
-    rated(out, 0, 0, 0, 4_294_967_295);
+pub(crate) fn limits(out: Stdout) {
+    rated(out, rates(1_000_000, 1_000_000, 1_000_000, 1_000_000));
+    rated(out, rates(1_000_001, 0, 0, 0));
+    rated(out, rates(0, 1_000_001, 0, 0));
+    rated(out, rates(0, 0, 1_000_001, 0));
+    rated(out, rates(0, 0, 0, 1_000_001));
+    rated(out, rates(0, 0, 0, 4_294_967_295));
 }
 
 // 6 for a length; 4 before the set-up, or for another stage than the next, whatever the body; and for a post before the last.
@@ -86,17 +62,17 @@ pub(crate) fn turns(out: Stdout) {
     let body = sites::stage();
     Desk::on(out, Book::new()).describe(0, &body);
     let mut d = Desk::on(out, sites::set_up());
-    d.describe_of(0, &body[0..499]);
+    d.describe_of(0, &body.bytes[..499]);
     d.describe(1, &body);
     d.describe(0, &body);
     d.describe(0, &body);
-    d.describe_of(2, &[0; 0]);
-    d.post(1, 0, 0, 0, 0, 1);
+    d.describe_of(2, &[]);
+    d.post(opening(0, 1));
     d.reports();
     d.describe(1, &body);
     d.describe(2, &body);
-    d.post(1, 0, 0, 0, 0, 1);
+    d.post(opening(0, 1));
     d.reports();
-    line::text(out, b"closed ");
+    let _ = print!(out; "closed ");
     Desk::on(out, sites::closed()).describe(2, &body);
 }

@@ -1,23 +1,23 @@
 // Good posts with one field changed, by kind.
 use crate::desk::Desk;
 use crate::posts;
-use crate::posts::Field;
+use crate::posts::{CLOSE, FOUND, Field, OPENING, WATER};
+use std::ops::RangeInclusive;
 
 impl Desk {
-    pub(crate) fn try_one(&mut self, kind: u8, field: Field, x: u64) {
-        self.give(posts::changed(posts::good(kind), field, x));
+    pub(crate) fn try_one(&mut self, kind: u8, field: Field) {
+        self.post(posts::changed(posts::good(kind), field));
     }
 
-    // The kinds from one up to another, which is not among them.
-    pub(crate) fn try_kinds(&mut self, from: u8, end: u8, field: Field, x: u64) {
-        for kind in from..end {
-            self.try_one(kind, field, x);
+    pub(crate) fn try_kinds(&mut self, kinds: RangeInclusive<u8>, field: Field) {
+        for kind in kinds {
+            self.try_one(kind, field);
         }
     }
 
     // All kinds but vapour, whose floats are used.
-    pub(crate) fn try_others(&mut self, field: Field, x: u64) {
-        self.try_kinds(1, 12, field, x);
-        self.try_kinds(13, 15, field, x);
+    pub(crate) fn try_others(&mut self, field: Field) {
+        self.try_kinds(OPENING..=WATER, field);
+        self.try_kinds(CLOSE..=FOUND, field);
     }
 }

@@ -12,77 +12,78 @@
 //     Second stage: came 750; left 150 to gas, 400 shipped; 200 remain, and close to gas.
 //       Gas 150 + 200 = 350: removed nine tenths, 315, none destroyed; released 35, to air; residue 315, to landfill.
 //     They add up to 750 with the 400 shipped; filed 35 and 320.
+use crate::bodies::{Body, Residues, Side, Water, rates};
 use crate::desk::Desk;
-use crate::{bodies, line};
+use crate::line;
+use crate::patterns::{HALF, HUNDRED};
+use crate::posts::{
+    bought, close, consumed, formed, gas, issued, landfill, off_site, opening, shipped, soil,
+    vapour, water,
+};
 use book::site::Book;
 use std::io::Stdout;
 
-const A_HUNDRED: u64 = 0x4059000000000000;
-
-const A_HALF: u64 = 0x3fe0000000000000;
-
 fn opened(out: Stdout) -> Desk {
-    let body = bodies::substance(bodies::begun(2, 2), 0, 300, 1);
-    let body = bodies::substance(body, 1, 400, 2);
-    let body = bodies::content(body, 0, 0, 200_000);
-    let body = bodies::content(body, 0, 1, 999);
-    let body = bodies::content(body, 1, 0, 9_999);
-    let body = bodies::content(body, 1, 1, 500_000);
+    let plant = Body::of_plant(2, 2)
+        .substance(0, 300, 1)
+        .substance(1, 400, 2)
+        .content(0, 0, 200_000)
+        .content(0, 1, 999)
+        .content(1, 0, 9_999)
+        .content(1, 1, 500_000);
+    let first = Body::of_stage(Water::Public, Residues::OffSite)
+        .treated(0, Side::Gas, rates(500_000, 250_000, 200_000, 0))
+        .treated(1, Side::WasteWater, rates(0, 0, 750_000, 500_000));
+    let second = Body::of_stage(Water::Sewer, Residues::Landfill)
+        .treated(
+            0,
+            Side::WasteWater,
+            rates(100_000, 1_000_000, 400_000, 500_000),
+        )
+        .treated(1, Side::Gas, rates(900_000, 0, 0, 0));
     let mut d = Desk::on(out, Book::new());
-    d.set_up(2, &body);
-    let body = bodies::treated(bodies::begun(1, 1), 0, 1, 500_000, 250_000, 200_000, 0);
-    let body = bodies::treated(body, 1, 2, 0, 0, 750_000, 500_000);
-    d.describe(0, &body);
-    let body = bodies::treated(
-        bodies::begun(2, 2),
-        0,
-        2,
-        100_000,
-        1_000_000,
-        400_000,
-        500_000,
-    );
-    let body = bodies::treated(body, 1, 1, 900_000, 0, 0, 0);
-    d.describe(1, &body);
+    d.set_up(2, &plant);
+    d.describe(0, &first);
+    d.describe(1, &second);
     d
 }
 
 // The second issue of the first material to the first stage is more than is there.
 fn received(d: &mut Desk) {
-    d.post(1, 0, 0, 0, 0, 1_000_000);
-    d.post(2, 0, 0, 0, 0, 4_000_000);
-    d.post(2, 1, 0, 0, 0, 2_000_000);
-    d.post(3, 0, 0, 0, 0, 3_000_000);
-    d.post(3, 0, 1, 0, 0, 1_000_000);
-    d.post(3, 0, 0, 0, 0, 2_000_000);
-    d.post(3, 1, 1, 0, 0, 1_500_000);
-    d.post(4, 0, 0, 0, 0, 300_000_000_000);
+    d.post(opening(0, 1_000_000));
+    d.post(bought(0, 4_000_000));
+    d.post(bought(1, 2_000_000));
+    d.post(issued(0, 0, 3_000_000));
+    d.post(issued(0, 1, 1_000_000));
+    d.post(issued(0, 0, 2_000_000));
+    d.post(issued(1, 1, 1_500_000));
+    d.post(formed(0, 0, 300_000_000_000));
 }
 
 // The second post to gas states no content.
 fn moved(d: &mut Desk) {
-    d.post(5, 0, 0, 0, 200_000, 1_000_000);
-    d.post(6, 0, 0, 0, 50_000, 100_000);
-    d.post(7, 0, 1, 0, 100_000, 50_000);
-    d.post(8, 0, 1, 0, 10_000, 1_000);
-    d.post(9, 0, 0, 0, 95_000, 1_000_000);
-    d.post(10, 0, 0, 0, 100_000, 500_000);
-    d.post(10, 0, 0, 0, 0, 500_000);
-    d.post(11, 0, 1, 0, 50_000, 200_000);
-    d.vapour(3, 0, 0, A_HUNDRED, A_HALF, 0, 0);
-    d.post(10, 0, 1, 1, 500_000, 300_000);
-    d.post(5, 0, 1, 1, 400_000, 1_000_000);
+    d.post(shipped(0, 0, 200_000, 1_000_000));
+    d.post(off_site(0, 0, 50_000, 100_000));
+    d.post(landfill(1, 0, 100_000, 50_000));
+    d.post(soil(1, 0, 10_000, 1_000));
+    d.post(consumed(0, 0, 95_000, 1_000_000));
+    d.post(gas(0, 0, 100_000, 500_000));
+    d.post(gas(0, 0, 0, 500_000));
+    d.post(water(1, 0, 50_000, 200_000));
+    d.post(vapour(3, 0, 0, [HUNDRED, HALF, 0, 0]));
+    d.post(gas(1, 1, 500_000, 300_000));
+    d.post(shipped(1, 1, 400_000, 1_000_000));
 }
 
 // What is bought after the close is refused.
 pub(crate) fn list(out: Stdout) {
-    line::text(out, b"a list worked from its posts\n");
+    line::title(out, "a list worked from its posts");
     let mut d = opened(out);
     received(&mut d);
     moved(&mut d);
     d.reports();
-    d.close();
+    d.post(close());
     d.reports();
-    d.post(2, 0, 0, 0, 0, 1);
+    d.post(bought(0, 1));
     d.reports();
 }

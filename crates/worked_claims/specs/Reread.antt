@@ -56,4 +56,4 @@ PremiseMet = TakesSingly lent met book_met × (book_met.year.posts ≡ 2)
 abbrev pub PremiseNeeded : Type 0
 PremiseNeeded =
     (all_taken fresh_book (singly 0 (accepted (fresh_page lent) unmet)) ≡ Err Short)
-    × (read_all fresh_book 0 (parts_in (journal_of lent unmet)) ≡ refused 2 Short)
+    × (read_all fresh_book 0 (parts_in (journal_of lent unmet)) ≡ Err (refused 2 Short))

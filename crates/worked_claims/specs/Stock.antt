@@ -26,10 +26,8 @@ one_material =
       numbers = fresh_setup.numbers;
       classes = fresh_setup.classes;
       counted = fresh_setup.counted;
-      to_sewer = fresh_setup.to_sewer;
-      to_landfill = fresh_setup.to_landfill;
-      to_water = fresh_setup.to_water;
-      rates = fresh_setup.rates;
+      stages = fresh_setup.stages;
+      pairs = fresh_setup.pairs;
     }
 
 -- a gram more in store than 4,000 posts bring

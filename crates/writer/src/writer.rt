@@ -9,7 +9,7 @@ use layout::frame;
 use layout::posts::POST_SIZE;
 use pages::counter::{BLOCK_SIZE, Counter};
 
-// The block holds the posts that wait.
+// The block holds the posts that wait, and zeros behind them: it is written whole, so that it is an array and not a list of posts. The buffer is lent by the host.
 #[derive(Drop)]
 pub struct Writer<'a> {
     buffer: &'a mut [u8],
@@ -46,7 +46,7 @@ impl<'a> Writer<'a> {
         Ok(())
     }
 
-    // The block with so many posts is written at its number, and the next one begun.
+    // The block with so many posts is written at its number, and the next one begun. The kind of posts is 3: in a block a kind is a byte.
     fn write_posts(&mut self, number: u32, count: u8)
         requires number_bound { number < 65536 }
         requires within { number * 512 + 512 ≤ length self.old.buffer.now }
@@ -92,7 +92,7 @@ impl<'a> Writer<'a> {
     }
 }
 
-// The block of a body and a number is put in its place.
+// The block of a body and a number is put in its place. Its kind is a byte, as in the block.
 fn put_block(buffer: &mut [u8], number: u32, kind: u8, count: u8, block: [u8; 512])
     requires number_bound { number < 65536 }
     requires within { number * 512 + 512 ≤ length buffer.old }

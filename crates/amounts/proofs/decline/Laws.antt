@@ -13,11 +13,6 @@ unfolding checked
 one_taken true n a b e = (refl, cc)
 one_taken false n a b e = cc
 
-pub one_declined : {A : Type 0} (t : Bool) (n : Decline) (a : A) (m : Decline) → Err m ≡ checked (check t n ∷ []) a → (t ≡ false) × (m ≡ n)
-unfolding checked
-one_declined true n a m e = cc
-one_declined false n a m e = (refl, cc)
-
 -- an answer that is taken came from one that was
 pub was_taken : {A B : Type 0} (x : Answer A) (next : A → Answer B) (b : B) → on_taken x next ≡ Ok b → (a : A) × (x ≡ Ok a) × (next a ≡ Ok b)
 was_taken (Ok a) next b e = (a, refl, e)

@@ -1,11 +1,11 @@
 -- A block on a book: its frame, what it holds, and that the book stays sound. Assumes nothing.
-use mathlib.Core.Path.{◌≡◌, sym, ap, subst, ◌∙◌}
+use mathlib.Core.Path.{◌≡◌, sym, ap, ◌∙◌}
 use mathlib.Core.List.{List}
 use Prim.Native.Nat.{ℕ, ◌+◌, ◌<◌}
 use native.Mathlib.Omega.{arith}
 use lib.ListN.{get_or}
 use Rattle.std.specs.Prelude.{Ok, Err}
-use Rattle.amounts.specs.Decline.{verdict_of}
+use Rattle.amounts.specs.Decline.{Answer, value_or, verdict_of}
 use Rattle.amounts.specs.declared.decline.Decline.{Decline}
 use Rattle.amounts.proofs.decline.Laws.{was_taken}
 use Rattle.layout.specs.Frame.{block_kind, count_of, body_of, held_at}
@@ -24,7 +24,7 @@ use Rattle.book.specs.Block.{setup_by, on_setup, on_year, by_holds, block_on}
 use Rattle.book.specs.Posts.{taken_to, posts_on}
 use Rattle.book.specs.Site.{Book, Sound, SoundYear, book_with}
 use Rattle.book.specs.declared.site.Year.{Year}
-use Rattle.book.proofs.posts.Laws.{was_err, many_sound, posts_taken_lem}
+use Rattle.book.proofs.posts.Laws.{was_err, was_ok, many_sound, posts_taken_lem}
 use Rattle.plant.proofs.setup.Taken as first
 use Rattle.book.proofs.site.Laws.{sound_before}
 use Rattle.plant.proofs.stage.Taken as stage
@@ -46,11 +46,14 @@ module _ (b : Book) (s : List ℕ) where
 
     -- a part of the set-up
     module _ (part : SetupPart) (is : h ≡ SetUp part) where
-      pub setup_declined : (n : Decline) → Err n ≡ setup_by b.setup part (count_of s) (body_of s) → block_on b s ≡ Err n
-      setup_declined n e = holds_is (SetUp part) is ∙ ap (on_setup b) (sym e)
+      abbrev pub made : Answer Setup
+      made = setup_by b.setup part (count_of s) (body_of s)
 
-      pub setup_taken : (u : Setup) → Ok u ≡ setup_by b.setup part (count_of s) (body_of s) → block_on b s ≡ Ok (book_with u b.year (b.blocks + 1))
-      setup_taken u e = holds_is (SetUp part) is ∙ ap (on_setup b) (sym e)
+      pub setup_declined : (n : Decline) → Err n ≡ verdict_of made → block_on b s ≡ Err n
+      setup_declined n e = holds_is (SetUp part) is ∙ ap (on_setup b) (was_err made n e)
+
+      pub setup_taken : (t : Unit) (u : Setup) → Ok t ≡ verdict_of made → u ≡ value_or b.setup made → block_on b s ≡ Ok (book_with u b.year (b.blocks + 1))
+      setup_taken t u e f = holds_is (SetUp part) is ∙ ap (on_setup b) (was_ok made b.setup t u e f)
 
     -- posts
     module _ (is : h ≡ Posts) where
@@ -59,6 +62,11 @@ module _ (b : Book) (s : List ℕ) where
 
       pub posts_taken : (y : Year) → posts_on b.setup b.year (count_of s) (body_of s) ≡ Ok y → block_on b s ≡ Ok (book_with b.setup y (b.blocks + 1))
       posts_taken y e = holds_is Posts is ∙ ap (on_year b) e
+
+      -- the same of a book that has the year after them, and is counted on
+      pub posts_counted : (c : Book) → posts_on b.setup b.year (count_of s) (body_of s) ≡ Ok c.year → (c.setup ≡ b.setup) × (c.blocks ≡ b.blocks)
+          → block_on b s ≡ Ok (book_with c.setup c.year (c.blocks + 1))
+      posts_counted c e kept = rw (kept.0, kept.1) (posts_taken c.year e)
 
 -- ---- what a block that is taken tells, by what it holds
 
@@ -106,26 +114,27 @@ module _ (b c : Book) (s : List ℕ) where
 -- ---- the book stays sound
 
 -- all but the count of blocks, which only bytes bound
-pub record SoundParts (b : Book) : Type 0 where
-  pub setup : SoundSetup b.setup
-  pub year : SoundYear b.setup b.year
+pub record SoundParts (u : Setup) (y : Year) : Type 0 where
+  pub setup : SoundSetup u
+  pub year : SoundYear u y
 
-pub done_sound : (b c : Book) (s : List ℕ) → SoundParts b → Done b s c → SoundParts c
+parts_of : (b : Book) → Sound b → SoundParts b.setup b.year
+parts_of b h = record { setup = h.setup; year = h.year }
+
+pub done_sound : (b c : Book) (s : List ℕ) → SoundParts b.setup b.year → Done b s c → SoundParts c.setup c.year
 done_sound b c s h (set_up k a is) =
     let none = h.year.none_before (first.not_yet b.setup.outline a.none) in
-    subst SoundParts (sym is)
+    rw is
     (record { setup = first.sound_set_up b.setup.outline (count_of s) (body_of s) a; year = sound_before b.setup (setup_of (count_of s) (body_of s)) b.year h.year none })
 done_sound b c s h (described k a is) =
     let none = h.year.none_before (stage.not_yet b.setup.outline a.left) in
-    subst SoundParts (sym is)
+    rw is
     (record { setup = stage.sound_stage b.setup (count_of s) (body_of s) h.setup a; year = sound_before b.setup (with_stage b.setup (count_of s) (body_of s)) b.year h.year none })
 done_sound b c s h (posted z k o e is) =
-    subst SoundParts (sym is) (record { setup = h.setup; year = many_sound b.setup b.year z (post_in (body_of s)) (count_of s) h.setup h.year e })
+    rw is (record { setup = h.setup; year = many_sound b.setup b.year z (post_in (body_of s)) (count_of s) h.setup h.year e })
 
 done_blocks : (b c : Book) (s : List ℕ) → Done b s c → c.blocks ≡ b.blocks + 1
-done_blocks b c s (set_up k a is) = ap (λ (x : Book). x.blocks) is
-done_blocks b c s (described k a is) = ap (λ (x : Book). x.blocks) is
-done_blocks b c s (posted z k o e is) = ap (λ (x : Book). x.blocks) is
+done_blocks b c s d = grind arith
 
 -- one block more, and a number of 16 bits
 pub block_more : (b c : Book) (s : List ℕ) → block_on b s ≡ Ok c → c.blocks ≡ b.blocks + 1
@@ -134,5 +143,11 @@ block_more b c s e = done_blocks b c s (block_done b c s e).1
 pub block_sound : (b c : Book) (s : List ℕ) → ((i : ℕ) → get_or s i 0 < 256) → Sound b → block_on b s ≡ Ok c → Sound c
 block_sound b c s fits h e =
     let d = block_done b c s e in
-    let p = done_sound b c s (record { setup = h.setup; year = h.year }) d.1 in
+    let p = done_sound b c s (parts_of b h) d.1 in
     record { setup = p.setup; year = p.year; blocks_few = omega (arith, number_small b.blocks s fits d.0, done_blocks b c s d.1) }
+
+-- a part of the set-up more, before the block is counted
+pub setup_sound : (b : Book) (s : List ℕ) (u : Setup) → Sound b → block_on b s ≡ Ok (book_with u b.year (b.blocks + 1)) → Sound (book_with u b.year b.blocks)
+setup_sound b s u h e =
+    let p = done_sound b (book_with u b.year (b.blocks + 1)) s (parts_of b h) (block_done b (book_with u b.year (b.blocks + 1)) s e).1 in
+    record { setup = p.setup; year = p.year; blocks_few = h.blocks_few }

@@ -3,13 +3,14 @@ use mathlib.Core.Path.{◌≡◌, refl, sym, ap, ◌∙◌}
 use mathlib.Core.Bool.{Bool, true, false, true≢false, cond, ◌||◌}
 use mathlib.Core.List.{List}
 use Prim.Native.Nat.{ℕ, ◌+◌, ◌-◌, ◌*◌, ◌^◌, ◌≤◌, ◌<◌}
-use native.Mathlib.Decide.{ℕ_discrete}
 use native.Mathlib.Nat.{add-mul, mul-le-mul}
 use native.Mathlib.Omega.{arith}
-use borrow.Author.Tests.{leb-true, ltb-true, eq-eqb, ne_eqb}
+use borrow.Author.Tests.{leb-true}
 use lib.Dec.{eqb, ltb}
-use lib.ListN.{length, get_or, set, length-set}
+use lib.ListN.{length, get_or, set}
 use lib.Seq.{get_or-set_same, get_or-set_other}
+use Rattle.std.proofs.lemmas.Bool.Decides.{nat_tests}
+use Rattle.std.proofs.lemmas.Grind.{common_steps}
 use Rattle.layout.specs.Outline.{may_post}
 use Rattle.layout.specs.declared.outline.Outline.{Outline}
 use Rattle.plant.specs.declared.setup.Setup.{Setup}
@@ -68,9 +69,6 @@ module _ (u : Setup) (y : Year) where
       let f = r.fits in
       omega (arith, grown_le y.sums (place a) stage s n (place_few a) f.0 f.1.0 r.sums_long have, r.totals s f.1.0)
 
-  pub room_close : Room u y Close → ((s : ℕ) → s < 8 → total y.sums s < 2 ^ 64) × (length y.sums ≡ 576)
-  room_close r = (λ s hs. omega (arith, r.totals s hs), r.sums_long)
-
 -- ---- the room of a sound year
 
 fits_widest : (o : Outline) (m : Move) → o.substances ≤ 8 → o.materials ≤ 12 → o.stages ≤ 8 → Fits o m → Fits widest m
@@ -122,33 +120,22 @@ module _ (store counted : List ℕ) (m s : ℕ) (hm : m < 12) (long : length sto
 
 -- a list with one place changed stays within a bound
 bounded_set : (l : List ℕ) (i v most : ℕ) → i < length l → ((j : ℕ) → j < length l → get_or l j 0 ≤ most) → v ≤ most → (j : ℕ) → j < length l → get_or (set l i v) j 0 ≤ most
-bounded_set l i v most hi h hv j hj = go (ℕ_discrete j i)
-  where
-    go : Dec (j ≡ i) → get_or (set l i v) j 0 ≤ most
-    go (yes e) = rw e (omega (arith, get_or-set_same l i v 0 hi))
-    go (no d) = omega (arith, get_or-set_other l i j v 0 d, h j hj)
+bounded_set l i v most hi h hv j hj = grind (arith, common_steps, h j hj)
 
 -- ---- what comes to a sum
 
 -- an amount added at a place of a list
 added_at : (l : List ℕ) (t n s : ℕ) → t < length l → get_or (added l t n) s 0 ≡ get_or l s 0 + cond (eqb t s) n 0
-added_at l t n s h = go (ℕ_discrete s t)
-  where
-    go : Dec (s ≡ t) → get_or (added l t n) s 0 ≡ get_or l s 0 + cond (eqb t s) n 0
-    go (yes e) = rw (e, eq-eqb t t refl) (get_or-set_same l t (get_or l t 0 + n) 0 h)
-    go (no d) = rw (ne_eqb t s (λ e. d (sym e))) (omega (arith, get_or-set_other l t s (get_or l t 0 + n) 0 d))
+added_at l t n s h = grind (arith, nat_tests, common_steps)
 
 -- one added to a cell is added to its substance's total
 total_added : (l : List ℕ) (a : Account) (stage t n s : ℕ) → stage < 8 → t < 8 → length l ≡ 576 → s < 8 → total (added l (cell_of a stage t) n) s ≡ total l s + cond (eqb t s) n 0
-total_added l a stage t n s hst ht long hs = go (ℕ_discrete s t)
-  where
-    go : Dec (s ≡ t) → total (added l (cell_of a stage t) n) s ≡ total l s + cond (eqb t s) n 0
-    go (yes e) = rw (e, eq-eqb t t refl) (omega (arith, total_set l (place a) stage t (cell l a stage t + n) (place_few a) hst ht long))
-    go (no d) = rw (ne_eqb t s (λ e. d (sym e))) (omega (arith, total_other l (place a) stage t (cell l a stage t + n) s ht hs d))
+total_added l a stage t n s hst ht long hs =
+    let v = cell l a stage t + n in
+    grind (arith, nat_tests, total_set l (place a) stage t v (place_few a) hst ht long, total_other l (place a) stage t v s ht hs)
 
 some_or_none : (t : Bool) (n most : ℕ) → n ≤ most → cond t n 0 ≤ most
-some_or_none true n most h = h
-some_or_none false n most h = omega arith
+some_or_none t n most h = grind arith
 
 -- ---- the step
 
@@ -162,9 +149,9 @@ pub record Step (u : Setup) (y : Year) (m : Move) (z : Year) : Type 0 where
 -- the lists that a move leaves, by what it brings in and what it has handled
 record Leaves (u : Setup) (y : Year) (m : Move) : Type 0 where
   store_long : length (store_after y.store m) ≡ 12
-  sums_long : length (sums_after u.counted u.to_water y.sums m) ≡ 576
+  sums_long : length (sums_after u.counted u.pairs y.sums m) ≡ 576
   handled_long : length (handled_after u.counted y.handled m) ≡ 8
-  totals : (s : ℕ) → s < 8 → total (sums_after u.counted u.to_water y.sums m) s ≡ total y.sums s + handles u.counted s m
+  totals : (s : ℕ) → s < 8 → total (sums_after u.counted u.pairs y.sums m) s ≡ total y.sums s + handles u.counted s m
   counts : (s : ℕ) → s < 8 → get_or (handled_after u.counted y.handled m) s 0 ≡ get_or y.handled s 0 + handles u.counted s m
   stored : (s : ℕ) → s < 8 → stored_to (store_after y.store m) u.counted s 12 + handles u.counted s m ≡ stored_to y.store u.counted s 12 + enters u.counted s m
   few : (s : ℕ) → s < 8 → 2 * 10 ^ 15 * y.posts + enters u.counted s m ≤ 2 * 10 ^ 15 * open_posts (closes m) (y.posts + 1)
@@ -183,74 +170,30 @@ module _ (u : Setup) (y : Year) (h : SoundYear u y) where
   abbrev counted : List ℕ
   counted = u.counted
 
+  totals_after : (m : Move) → Room u y m → is_there y.store y.sums m ≡ true → (s : ℕ) → s < 8 → total (sums_after counted u.pairs y.sums m) s ≡ total y.sums s + handles counted s m
+  totals_after (Received m g) r t s hs = omega arith
+  totals_after (Issued m stage g) r t s hs = total_raised (brings counted m g) y.sums stage r.fits.1.0 h.sums_long s hs
+  totals_after (Brought a stage t n) r q s hs = total_added y.sums a stage t n s r.fits.0 r.fits.1.0 h.sums_long hs
+  totals_after (Gone a stage t n) r q s hs =
+      omega (arith, total_moved y.sums (place a) stage t n (place_few a) r.fits.0 r.fits.1.0 h.sums_long (leb-true n (cell y.sums Held stage t) q) s hs)
+  totals_after Close r q s hs = omega (arith, total_settled y.sums u.pairs 64 s (omega arith) hs h.sums_long)
+
   leaves : (m : Move) → Room u y m → is_there y.store y.sums m ≡ true → Leaves u y m
-  leaves (Received m g) r t =
-      let f = r.fits in
+  leaves m r t =
       record {
-        store_long = length-set y.store m (get_or y.store m 0 + g) ∙ h.store_long;
-        sums_long = h.sums_long;
-        handled_long = h.handled_long;
-        totals = λ s hs. omega arith;
-        counts = λ s hs. omega arith;
-        stored = λ s hs. omega (arith, stored_more y.store counted m s f.0 h.store_long g);
-        few = λ s hs. omega (arith, brings_small counted m g s r.counted_small f.1);
-        stores = stores_set m (get_or y.store m 0 + g) f.0 (omega (arith, f.1, stores_same m f.0));
-      }
-  leaves (Issued m stage g) r t =
-      let f = r.fits in
-      let have = leb-true g (get_or y.store m 0) t in
-      let amount = brings counted m g in
-      record {
-        store_long = length-set y.store m (get_or y.store m 0 - g) ∙ h.store_long;
-        sums_long = length-raised (cell_of Held stage) amount y.sums 8 ∙ h.sums_long;
-        handled_long = length-raised (λ s. s) amount y.handled 8 ∙ h.handled_long;
-        totals = λ s hs. total_raised amount y.sums stage f.1.0 h.sums_long s hs;
-        counts = λ s hs. handled_raised amount y.handled s h.handled_long hs;
-        stored = λ s hs. omega (arith, stored_less y.store counted m s f.0 h.store_long g have);
-        few = λ s hs. omega arith;
-        stores = stores_set m (get_or y.store m 0 - g) f.0 (omega (arith, stores_same m f.0));
-      }
-  leaves (Brought a stage t n) r q =
-      let f = r.fits in
-      record {
-        store_long = h.store_long;
-        sums_long = length-set y.sums (cell_of a stage t) (cell y.sums a stage t + n) ∙ h.sums_long;
-        handled_long = length-set y.handled t (get_or y.handled t 0 + n) ∙ h.handled_long;
-        totals = λ s hs. total_added y.sums a stage t n s f.0 f.1.0 h.sums_long hs;
-        counts = λ s hs. added_at y.handled t n s (omega (arith, h.handled_long, f.1.0));
-        stored = λ s hs. omega arith;
-        few = λ s hs. omega (arith, some_or_none (eqb t s) n (2 * 10 ^ 15) f.1.1);
-        stores = λ i hi. omega (arith, stores_same i hi);
-      }
-  leaves (Gone a stage t n) r q =
-      let f = r.fits in
-      let have = leb-true n (cell y.sums Held stage t) q in
-      record {
-        store_long = h.store_long;
-        sums_long = length_moved y.sums (cell_of Held stage t) (cell_of a stage t) n ∙ h.sums_long;
-        handled_long = h.handled_long;
-        totals = λ s hs. omega (arith, total_moved y.sums (place a) stage t n (place_few a) f.0 f.1.0 h.sums_long have s hs);
-        counts = λ s hs. omega arith;
-        stored = λ s hs. omega arith;
-        few = λ s hs. omega arith;
-        stores = λ i hi. omega (arith, stores_same i hi);
-      }
-  leaves Close r q =
-      record {
-        store_long = h.store_long;
-        sums_long = length-settled y.sums u.to_water 64 ∙ h.sums_long;
-        handled_long = h.handled_long;
-        totals = λ s hs. omega (arith, total_settled y.sums u.to_water 64 s (omega arith) hs h.sums_long);
-        counts = λ s hs. omega arith;
-        stored = λ s hs. omega arith;
-        few = λ s hs. omega arith;
-        stores = λ i hi. omega (arith, stores_same i hi);
+        store_long = grind (arith, common_steps, h.store_long);
+        sums_long = grind (arith, common_steps, h.sums_long, length-raised, length_moved, length-settled);
+        handled_long = grind (arith, common_steps, h.handled_long, length-raised);
+        totals = totals_after m r t;
+        counts = λ s hs. grind (arith, h.handled_long, handled_raised, added_at);
+        stored = λ s hs. grind (arith, nat_tests, h.store_long, stored_more, stored_less);
+        few = λ s hs. grind (arith, brings_small, some_or_none, r.counted_small);
+        stores = λ i hi. grind (arith, stores_same, stores_set);
       }
 
 -- a close and a post that finds room by the count leave at most 4,000 before the close
 still_few : (close : Bool) (posts : ℕ) → close || ltb posts 4000 ≡ true → posts ≤ 4000 → open_posts close (posts + 1) ≤ 4000
-still_few true posts h few = omega arith
-still_few false posts h few = omega (arith, ltb-true posts 4000 h)
+still_few close posts h few = grind (arith, nat_tests)
 
 pub stepped : (u : Setup) (y : Year) (m : Move) → SoundSetup u → SoundYear u y → may_post u.outline ≡ true → y.closed ≡ false → Fits u.outline m
     → has_room y.posts m ≡ true → is_there y.store y.sums m ≡ true → Step u y m (year_after u y m)

@@ -1,9 +1,8 @@
 -- Laws of the ledger: what each change of its sums does to the total of each substance. Assumes nothing.
 use mathlib.Core.Path.{◌≡◌, refl, sym, ap, ◌∙◌}
-use mathlib.Core.Bool.{Bool, true, false}
+use mathlib.Core.Bool.{Bool}
 use mathlib.Core.List.{List}
 use Prim.Native.Nat.{ℕ, zero, suc, ◌+◌, ◌-◌, ◌*◌, ◌/◌, ◌%◌, ◌≤◌, ◌<◌}
-use native.Mathlib.Decide.{ℕ_discrete, dec_lt}
 use native.Mathlib.Numerals.{add-one}
 use native.Mathlib.Omega.{arith}
 use lib.ListN.{length, get_or, set, length-set}
@@ -12,6 +11,8 @@ use Rattle.encoding.specs.Each.{sum_to, put_to}
 use Rattle.encoding.proofs.Each.{put_again, length-put, put_other, put_at, sum_same, sum_point, term_le}
 use Rattle.kinds.specs.Account.{place, closes_to}
 use Rattle.kinds.specs.declared.account.Account.TheVariants.{Held}
+use Rattle.plant.specs.Setup.{no_pair}
+use Rattle.plant.specs.declared.setup.Pair.{Pair}
 use Rattle.book.specs.Ledger.{at, total, moved, raised, settled}
 
 -- An account is its place here, from 0 to 8.
@@ -41,12 +42,7 @@ total_is sums s = refl
 
 -- the last digit in base eight is told by the number
 same_digit : (x y k j : ℕ) → k < 8 → j < 8 → x * 8 + k ≡ y * 8 + j → k ≡ j
-same_digit x y k j hk hj e = go (dec_lt x y) (dec_lt y x)
-  where
-    go : Dec (x < y) → Dec (y < x) → k ≡ j
-    go (yes p) q = omega arith
-    go (no p) (yes q) = omega arith
-    go (no p) (no q) = omega arith
+same_digit x y k j hk hj e = grind arith
 
 -- a write to a cell changes its substance's total as it does the cell
 pub total_set : (l : List ℕ) (account stage s v : ℕ) → account < 9 → stage < 8 → s < 8 → length l ≡ 576
@@ -90,13 +86,9 @@ module _ (l : List ℕ) (account stage s n : ℕ) (ha : account < 9) (hst : stag
 
   -- a transfer keeps every total
   pub total_moved : (t : ℕ) → t < 8 → total (moved l (spot held stage s) (spot account stage s) n) t ≡ total l t
-  total_moved t ht = go (ℕ_discrete t s)
-    where
-      go : Dec (t ≡ s) → total (moved l (spot held stage s) (spot account stage s) n) t ≡ total l t
-      go (yes e) = rw e total_moved_same
-      go (no d) =
-          let m = set l (spot held stage s) (sum_at l held stage s - n) in
-          total_other m account stage s (sum_at m account stage s + n) t hs ht d ∙ total_other l held stage s (sum_at l held stage s - n) t hs ht d
+  total_moved t ht =
+      let m = set l (spot held stage s) (sum_at l held stage s - n) in
+      grind (arith, total_moved_same, total_other m account stage s (sum_at m account stage s + n) t hs ht, total_other l held stage s (sum_at l held stage s - n) t hs ht)
 
   -- what the account then holds is at most the total
   pub grown_le : sum_at (set l (spot held stage s) (sum_at l held stage s - n)) account stage s + n ≤ total l s
@@ -121,38 +113,34 @@ module _ (l : List ℕ) (account pair n : ℕ) (ha : account < 9) (hp : pair < 6
 
 pub closes_below : (to_water : Bool) → closing to_water < 9
 unfolding closes_to
-closes_below true = omega arith
-closes_below false = omega arith
+closes_below to_water = grind arith
 
-module _ (l : List ℕ) (sides : List Bool) where
-  settled_again : (k : ℕ) → settled l sides (k + 1) ≡ moved (settled l sides k) (at held k) (at (closing (get_or sides k false)) k) (get_or (settled l sides k) (at held k) 0)
+module _ (l : List ℕ) (pairs : List Pair) where
+  settled_again : (k : ℕ) → settled l pairs (k + 1) ≡ moved (settled l pairs k) (at held k) (at (closing (get_or pairs k no_pair).to_water) k) (get_or (settled l pairs k) (at held k) 0)
   unfolding settled
   settled_again k = rw add-one
 
   -- one pair more
-  pub settled_more : (k : ℕ) (out : List ℕ) (to : ℕ) → out ≡ settled l sides k → to ≡ closing (get_or sides k false)
-      → moved out (at held k) (at to k) (get_or out (at held k) 0) ≡ settled l sides (k + 1)
-  settled_more k out to e w =
-      ap (λ (x : List ℕ). moved x (at held k) (at to k) (get_or x (at held k) 0)) e
-      ∙ ap (λ (x : ℕ). moved (settled l sides k) (at held k) (at x k) (get_or (settled l sides k) (at held k) 0)) w
-      ∙ sym (settled_again k)
+  pub settled_more : (k : ℕ) (out : List ℕ) (to : ℕ) → out ≡ settled l pairs k → to ≡ closing (get_or pairs k no_pair).to_water
+      → moved out (at held k) (at to k) (get_or out (at held k) 0) ≡ settled l pairs (k + 1)
+  settled_more k out to e w = rw (e, w, settled_again k) refl
 
-  pub length-settled : (k : ℕ) → length (settled l sides k) ≡ length l
+  pub length-settled : (k : ℕ) → length (settled l pairs k) ≡ length l
   unfolding settled
   length-settled zero = refl
-  length-settled (suc k) = length_moved (settled l sides k) (at held k) (at (closing (get_or sides k false)) k) (get_or (settled l sides k) (at held k) 0) ∙ length-settled k
+  length-settled (suc k) = length_moved (settled l pairs k) (at held k) (at (closing (get_or pairs k no_pair).to_water) k) (get_or (settled l pairs k) (at held k) 0) ∙ length-settled k
 
   -- closing keeps every total
-  pub total_settled : (k t : ℕ) → k ≤ 64 → t < 8 → length l ≡ 576 → total (settled l sides k) t ≡ total l t
+  pub total_settled : (k t : ℕ) → k ≤ 64 → t < 8 → length l ≡ 576 → total (settled l pairs k) t ≡ total l t
   unfolding settled
   total_settled zero t hk ht long = refl
   total_settled (suc k) t hk ht long =
-      total_moved_at (settled l sides k) (closing (get_or sides k false)) k (get_or (settled l sides k) (at held k) 0)
-      (closes_below (get_or sides k false)) (omega arith) (length-settled k ∙ long) (omega arith) t ht
+      total_moved_at (settled l pairs k) (closing (get_or pairs k no_pair).to_water) k (get_or (settled l pairs k) (at held k) 0)
+      (closes_below (get_or pairs k no_pair).to_water) (omega arith) (length-settled k ∙ long) (omega arith) t ht
       ∙ total_settled k t (omega arith) ht long
 
   -- what a pair's account then holds is within what bounds the totals
-  pub settled_room : (k : ℕ) (out : List ℕ) (to most : ℕ) → out ≡ settled l sides k → k < 64 → to < 9 → length l ≡ 576 → ((s : ℕ) → s < 8 → total l s < most)
+  pub settled_room : (k : ℕ) (out : List ℕ) (to most : ℕ) → out ≡ settled l pairs k → k < 64 → to < 9 → length l ≡ 576 → ((s : ℕ) → s < 8 → total l s < most)
       → get_or (set out (at held k) (get_or out (at held k) 0 - get_or out (at held k) 0)) (at to k) 0 + get_or out (at held k) 0 < most
   settled_room k out to most e hk ht long few =
       let stays : length out ≡ 576 = ap length e ∙ length-settled k ∙ long in
@@ -207,21 +195,17 @@ module _ (amount : ℕ → ℕ) (l : List ℕ) (stage : ℕ) (hst : stage < 8) (
   raised_total_to : (n s : ℕ) → s < n → n ≤ 8 → total (raised (spot held stage) amount l n) s ≡ total l s + amount s
   unfolding put_to
   raised_total_to zero s h hn = absurd (omega arith)
-  raised_total_to (suc n) s h hn = go (ℕ_discrete s n) (raised_total_to n s)
-    where
-      go : Dec (s ≡ n) → (s < n → n ≤ 8 → total (raised (spot held stage) amount l n) s ≡ total l s + amount s)
-          → total (set (raised (spot held stage) amount l n) (spot held stage n) (sum_at l held stage n + amount n)) s ≡ total l s + amount s
-      go (yes e) before =
-          rw e
-          (omega (
-            arith,
-            total_set (raised (spot held stage) amount l n) held stage n (sum_at l held stage n + amount n) (omega arith) hst (omega arith) (length-raised (spot held stage) amount l n ∙ long),
-            raised_later (spot held stage) amount l n n (own_place stage) (omega arith),
-            raised_before n n (omega arith) (omega arith),
-          ))
-      go (no d) before =
-          total_other (raised (spot held stage) amount l n) held stage n (sum_at l held stage n + amount n) s (omega arith) (omega arith) d
-          ∙ before (omega arith) (omega arith)
+  raised_total_to (suc n) s h hn =
+      let m = raised (spot held stage) amount l n in
+      let v = sum_at l held stage n + amount n in
+      grind (
+        arith,
+        raised_total_to n s,
+        total_set m held stage n v (omega arith) hst (omega arith) (length-raised (spot held stage) amount l n ∙ long),
+        total_other m held stage n v s (omega arith) (omega arith),
+        raised_later (spot held stage) amount l n n (own_place stage) (omega arith),
+        raised_before n n (omega arith) (omega arith),
+      )
 
   -- the total of each substance grows by its amount
   pub total_raised : (s : ℕ) → s < 8 → total (raised (spot held stage) amount l 8) s ≡ total l s + amount s

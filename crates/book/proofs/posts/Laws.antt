@@ -8,7 +8,9 @@ use native.Mathlib.Numerals.{add-one}
 use native.Mathlib.Omega.{arith}
 use borrow.Author.Tests.{not-true}
 use lib.ListN.{take, drop}
+use Rattle.std.proofs.lemmas.Result.{err_from_is_err_and}
 use Rattle.std.specs.Prelude.{Ok, Err}
+use Rattle.std.specs.Result.{IsErrAnd}
 use Rattle.amounts.specs.Decline.{Answer, check, checked, on_taken, value_or, verdict_of}
 use Rattle.amounts.specs.declared.decline.Decline.TheVariants.{Full, Short}
 use Rattle.amounts.specs.declared.decline.Decline.{Decline}
@@ -61,11 +63,6 @@ module _ (u : Setup) (y : Year) (s : List ℕ) where
         told = ap (move_at u.outline u.numbers) (sym b.1) ∙ c.1 ∙ ap Ok (sym d.1);
         room = ap (has_room y.posts) d.1 ∙ d.0.0;
       }
-
-  -- it is taken where what leaves is there
-  pub on_there : (m : Move) → asks ≡ Ok m → post_on u y s ≡ checked (check (is_there y.store y.sums m) Short ∷ []) (year_after u y m)
-  unfolding post_on entered
-  on_there m e = ap (λ (x : Answer Move). on_taken x (entered u y)) e
 
 -- ---- what a post that is taken tells
 
@@ -138,12 +135,19 @@ many_sound u y z posts (suc n) su h e =
 
 -- an answer by its verdict and its value
 pub was_err : {A : Type 0} (x : Answer A) (n : Decline) → Err n ≡ verdict_of x → x ≡ Err n
-was_err (Ok a) n e = cc
-was_err (Err m) n e = cc
+was_err x n e = grind arith
 
 pub was_ok : {A : Type 0} (x : Answer A) (z : A) (t : Unit) (w : A) → Ok t ≡ verdict_of x → w ≡ value_or z x → x ≡ Ok w
-was_ok (Ok a) z t w e f = cc
-was_ok (Err m) z t w e f = cc
+was_ok x z t w e f = grind arith
+
+pub was_kept : {A : Type 0} (x : Answer A) (z : A) (n : Decline) (w : A) → Err n ≡ verdict_of x → w ≡ value_or z x → w ≡ z
+was_kept x z n w e f = grind arith
+
+-- what a `?` hands on of an answer that is a decline is its verdict
+pub hands_on : {A : Type 0} (r : Answer Unit) (x : Answer A) (n : Decline) → IsErrAnd r (λ m. m ≡ n) → x ≡ Err n → r ≡ verdict_of x
+hands_on r x n h e =
+    let p = err_from_is_err_and r h in
+    rw (e, p.1, p.2)
 
 -- and a sound book
 pub sound_posted : (u : Setup) (y z : Year) (n : ℕ) (s : List ℕ) → Sound (book_with u y n) → z ≡ value_or y (post_on u y s) → Sound (book_with u z n)
@@ -153,19 +157,38 @@ sound_posted u y z n s h e = record { setup = h.setup; year = rw e (post_sound u
 module _ (b : Book) (s : List ℕ) where
   pub single_verdict : verdict_of (single_on b s) ≡ verdict_of (post_on b.setup b.year s)
   unfolding single_on
-  single_verdict = go (post_on b.setup b.year s)
-    where
-      go : (x : Answer Year) → verdict_of (on_taken x (λ z. Ok (book_with b.setup z b.blocks))) ≡ verdict_of x
-      go (Ok z) = refl
-      go (Err n) = refl
+  single_verdict = grind arith
 
   pub single_value : value_or b (single_on b s) ≡ book_with b.setup (value_or b.year (post_on b.setup b.year s)) b.blocks
   unfolding single_on
-  single_value = go (post_on b.setup b.year s)
-    where
-      go : (x : Answer Year) → value_or b (on_taken x (λ z. Ok (book_with b.setup z b.blocks))) ≡ book_with b.setup (value_or b.year x) b.blocks
-      go (Ok z) = refl
-      go (Err n) = refl
+  single_value = grind arith
+
+  -- a post that isn't admitted is declined, and a move that is admitted is entered
+  pub single_declined : (n : Decline) → Err n ≡ asks b.setup b.year s → single_on b s ≡ Err n
+  unfolding single_on
+  single_declined n e = ap (λ (x : Answer Year). on_taken x (λ z. Ok (book_with b.setup z b.blocks))) (not_admitted b.setup b.year s n (sym e))
+
+  module _ (m : Move) (admits : Ok m ≡ asks b.setup b.year s) where
+    entered_is : post_on b.setup b.year s ≡ entered b.setup b.year m
+    unfolding post_on
+    entered_is = rw (← admits)
+
+    pub entered_as : (r : Answer Unit) → r ≡ verdict_of (entered b.setup b.year m) → r ≡ verdict_of (single_on b s)
+    entered_as r e = rw (single_verdict, entered_is) e
+
+    pub entered_to : (y : Year) → y ≡ value_or b.year (entered b.setup b.year m) → y ≡ value_or b.year (post_on b.setup b.year s)
+    entered_to y e = rw entered_is e
+
+    pub entered_book : (y : Year) → y ≡ value_or b.year (entered b.setup b.year m) → book_with b.setup y b.blocks ≡ value_or b (single_on b s)
+    entered_book y e = rw (single_value, entered_is, e) refl
+
+-- a post on a book with the set-up of another
+module _ (b c : Book) (same : c.setup ≡ b.setup) (s : List ℕ) where
+  pub verdict_there : verdict_of (single_on c s) ≡ verdict_of (post_on b.setup c.year s)
+  verdict_there = rw (single_verdict c s, same)
+
+  pub book_there : (d : Book) → d ≡ value_or c (single_on c s) → d ≡ book_with b.setup (value_or c.year (post_on b.setup c.year s)) c.blocks
+  book_there d e = rw (e, single_value c s, same)
 
 module _ (u : Setup) (y : Year) (count : ℕ) (body : List ℕ) where
   abbrev pub own : Answer ℕ

@@ -1,6 +1,6 @@
 -- What keeps a book sound. Assumes nothing.
 use mathlib.Core.Path.{◌≡◌, refl, sym, ◌∙◌}
-use mathlib.Core.Bool.{Bool, true, false}
+use mathlib.Core.Bool.{Bool, false}
 use mathlib.Core.List.{List}
 use Prim.Native.Nat.{ℕ, ◌+◌, ◌*◌, ◌≤◌, ◌<◌}
 use native.Mathlib.Nat.{zero-mul}
@@ -17,8 +17,7 @@ use Rattle.book.proofs.ledger.Laws.{spot, sum_at}
 
 -- the close is one of a year's posts at most
 pub open_posts_le : (closed : Bool) (posts : ℕ) → (open_posts closed posts ≤ posts) × (posts ≤ open_posts closed posts + 1)
-open_posts_le true posts = (omega arith, omega arith)
-open_posts_le false posts = (omega arith, omega arith)
+open_posts_le closed posts = (grind arith, grind arith)
 
 pub open_few : (u : Setup) (y : Year) → SoundYear u y → y.closed ≡ false → y.posts ≤ 4000
 open_few u y h e = (rw e at h).posts_few

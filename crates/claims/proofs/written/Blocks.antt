@@ -1,20 +1,22 @@
 -- Blocks in turn, and what a set-up block and a block of posts that are made tell and pass. Assumes nothing.
 use mathlib.Core.Path.{◌≡◌, refl, ap, ◌∙◌}
-use mathlib.Core.Bool.{true, false}
+use mathlib.Core.Bool.{Bool, true, false}
 use mathlib.Core.List.{List, [], ◌∷◌, ◌++◌}
-use Prim.Native.Nat.{ℕ, zero, suc, ◌+◌, ◌-◌, ◌*◌, ◌≤◌, ◌<◌}
+use Prim.Native.Nat.{ℕ, suc, ◌+◌, ◌-◌, ◌*◌, ◌≤◌, ◌<◌}
 use native.Mathlib.Omega.{arith}
 use borrow.Author.Tests.{eq-eqb, le-leb}
-use lib.ListN.{length, get_or, drop, length-append}
+use lib.ListN.{length, get_or}
 use lib.Seq.{drop_at}
 use Rattle.std.proofs.lemmas.Grind.{common_steps}
+use Rattle.std.proofs.lemmas.List.Concat.{flat_map-append}
+use Rattle.std.specs.List.{All, fold}
 use Rattle.std.specs.Prelude.{Ok}
 use Rattle.amounts.specs.Decline.{is_taken}
 use Rattle.encoding.specs.Bytes.{padded, all_zero, within}
 use Rattle.layout.specs.Frame.{block_kind, count_of, body_of, block_of}
 use Rattle.layout.specs.Holds.{holds_of}
 use Rattle.layout.specs.Outline.{may_post}
-use Rattle.layout.specs.Posts.{post_in, own_checks}
+use Rattle.layout.specs.Posts.{own_checks}
 use Rattle.layout.specs.declared.holds.Holds.TheVariants.{SetUp, Posts}
 use Rattle.layout.specs.declared.holds.SetupPart.{SetupPart}
 use Rattle.layout.specs.declared.outline.Outline.{Outline}
@@ -26,19 +28,13 @@ use Rattle.post.specs.Moves.{well_formed}
 use Rattle.pages.specs.Tally.{part_checks, outline_after}
 use Rattle.claims.specs.Written.{joined, posts_by, posts_in, posts_in_all, body_rows, outline_by, outline_past, Passes, AllPass}
 use Rattle.claims.proofs.written.Accepted.{not_posts, formed_long}
-use Rattle.claims.proofs.written.Places.{zeros, zeros_long, zeros_zero, EachLong, joined_long, part_is, parts_are}
+use Rattle.claims.proofs.written.Places.{zeros, zeros_zero, EachLong, joined_long, part_is, parts_are}
 
 -- ---- one block more
 
 -- the outline after blocks
 abbrev pub outline_over : Outline → List (List ℕ) → Outline
-outline_over o [] = o
-outline_over o (s ∷ blocks) = outline_over (outline_past o s) blocks
-
--- it changes the outline that those before it made
-pub outline_last : (o : Outline) (blocks : List (List ℕ)) (s : List ℕ) → outline_over o (blocks ++ (s ∷ [])) ≡ outline_past (outline_over o blocks) s
-outline_last o [] s = refl
-outline_last o (x ∷ blocks) s = outline_last (outline_past o x) blocks s
+outline_over o blocks = fold outline_past o blocks
 
 -- it passes by its place and that outline
 pub pass_last : (place : ℕ) (o : Outline) (blocks : List (List ℕ)) (s : List ℕ) → AllPass place o blocks → Passes (place + length blocks) (outline_over o blocks) s
@@ -52,9 +48,7 @@ pass_last place o (x ∷ blocks) s h p =
 
 -- its posts come last
 pub posts_last : (blocks : List (List ℕ)) (s : List ℕ) → posts_in_all (blocks ++ (s ∷ [])) ≡ posts_in_all blocks ++ posts_in s
-unfolding posts_in_all
-posts_last [] s = grind (arith, common_steps)
-posts_last (x ∷ blocks) s = grind (arith, common_steps, posts_last blocks s)
+posts_last blocks s = grind (arith, common_steps, flat_map-append posts_in blocks (s ∷ []))
 
 -- ---- a set-up block
 
@@ -92,79 +86,78 @@ module _ (kind count number : ℕ) (body : List ℕ) (part : SetupPart) (holds :
           posts = λ e. absurd (not_posts part of_part e);
         }
 
+-- ---- a block made of so many posts
+
+module _ (n : ℕ) (l : List ℕ) (number : ℕ) where
+  abbrev pub laid : List ℕ
+  laid = block_of 3 n number (padded 500 l)
+
+  pub laid_posts : holds_of (block_kind laid) ≡ Ok Posts
+  laid_posts = held_made 3 n number (padded 500 l) Posts of_posts_lem
+
+  pub laid_count : count_of laid ≡ n
+  laid_count = count_made 3 n number (padded 500 l)
+
+module _ (n : ℕ) (l : List ℕ) (long : length l ≡ n * 48) (few : n ≤ 10) where
+  pub body_long : length (padded 500 l) ≡ 500
+  body_long = grind (arith, common_steps)
+
+  pub laid_body : (number : ℕ) → body_of (laid n l number) ≡ padded 500 l
+  laid_body number = body_made 3 n number (padded 500 l) body_long
+
+  -- 4 to 6 of its own bytes
+  pub own_pass : (o : Outline) (closed : Bool) → may_post o ≡ true → closed ≡ false → 1 ≤ n → table.AllPass (own_checks o closed n (padded 500 l))
+  own_pass o closed turn is_open some =
+      let rest_zero = ap all_zero (drop_at l (zeros (500 - length l)) (n * 48) long) ∙ zeros_zero (500 - length l) in
+      (turn, (rw is_open refl, (eq-eqb (length (padded 500 l)) 500 body_long, (within_is 1 10 n some few, (rest_zero, tt)))))
+
 -- ---- a block of posts
 
--- each is well formed by the outline
-abbrev pub EachFormed : Outline → List (List ℕ) → Type 0
-EachFormed o [] = Unit
-EachFormed o (s ∷ posts) = (is_taken (well_formed o s) ≡ true) × EachFormed o posts
-
-pub formed_last : (o : Outline) (posts : List (List ℕ)) (s : List ℕ) → EachFormed o posts → is_taken (well_formed o s) ≡ true → EachFormed o (posts ++ (s ∷ []))
-formed_last o [] s h e = (e, tt)
-formed_last o (x ∷ posts) s h e = (h.0, formed_last o posts s h.1 e)
-
-pub formed_at : (o : Outline) (posts : List (List ℕ)) → EachFormed o posts → (i : ℕ) → i < length posts → is_taken (well_formed o (get_or posts i [])) ≡ true
-formed_at o [] h i l = absurd (omega arith)
-formed_at o (s ∷ posts) h zero l = h.0
-formed_at o (s ∷ posts) h (suc i) l = formed_at o posts h.1 i (omega arith)
+-- one that is well formed by the outline
+abbrev pub Formed : Outline → List ℕ → Type 0
+Formed o s = is_taken (well_formed o s) ≡ true
 
 -- and so each is 48 bytes
-pub each_long : (o : Outline) (posts : List (List ℕ)) → EachFormed o posts → EachLong 48 posts
-each_long o [] h = tt
-each_long o (s ∷ posts) h = (formed_long o s h.0, each_long o posts h.1)
+pub each_long : (o : Outline) (posts : List (List ℕ)) → All (Formed o) posts → EachLong 48 posts
+each_long o posts h i d l = formed_long o (get_or posts i d) (h i d l)
 
 -- the body of a block of posts
 abbrev pub posts_body : List (List ℕ) → List ℕ
 posts_body posts = padded 500 (joined posts)
 
 module _ (number : ℕ) (posts : List (List ℕ)) where
+  abbrev n : ℕ
+  n = length posts
+
   abbrev pub block_of_posts : List ℕ
-  block_of_posts = block_of 3 (length posts) number (posts_body posts)
+  block_of_posts = laid n (joined posts) number
 
   is_posts : holds_of (block_kind block_of_posts) ≡ Ok Posts
-  is_posts = held_made 3 (length posts) number (posts_body posts) Posts of_posts_lem
+  is_posts = laid_posts n (joined posts) number
 
   pub posts_outline : (o : Outline) → outline_past o block_of_posts ≡ o
   posts_outline o = ap (outline_by o block_of_posts) is_posts
 
-  module _ (each : EachLong 48 posts) (few : length posts ≤ 10) where
-    joined_is : length (joined posts) ≡ length posts * 48
-    joined_is = joined_long 48 posts each
+  module _ (each : EachLong 48 posts) (few : n ≤ 10) where
+    long : length (joined posts) ≡ n * 48
+    long = joined_long 48 posts each
 
-    pub body_long : length (posts_body posts) ≡ 500
-    body_long = omega (arith, length-append (joined posts) (zeros (500 - length (joined posts))), zeros_long (500 - length (joined posts)), joined_is)
+    count_is : count_of block_of_posts ≡ n
+    count_is = laid_count n (joined posts) number
 
     body_is : body_of block_of_posts ≡ posts_body posts
-    body_is = body_made 3 (length posts) number (posts_body posts) body_long
-
-    count_is : count_of block_of_posts ≡ length posts
-    count_is = count_made 3 (length posts) number (posts_body posts)
+    body_is = laid_body n (joined posts) long few number
 
     pub posts_held : posts_in block_of_posts ≡ posts
     posts_held = rw (is_posts, count_is, body_is) (parts_are 48 posts (zeros (500 - length (joined posts))) each)
 
-    -- the places behind the last post are zero
-    rest_zero : all_zero (drop (length posts * 48) (posts_body posts)) ≡ true
-    rest_zero =
-        let z : List ℕ = zeros (500 - length (joined posts)) in
-        ap all_zero (drop_at (joined posts) z (length posts * 48) joined_is) ∙ zeros_zero (500 - length (joined posts))
-
-    module _ (o : Outline) (turn : may_post o ≡ true) (some : 1 ≤ length posts) where
-      own_rows : body_rows o block_of_posts Posts ≡ own_checks o false (length posts) (posts_body posts)
-      own_rows = rw (count_is, body_is)
-
-      own_pass : table.AllPass (own_checks o false (length posts) (posts_body posts))
-      own_pass = (turn, (refl, (eq-eqb (length (posts_body posts)) 500 body_long, (within_is 1 10 (length posts) some few, (rest_zero, tt)))))
-
-      post_at_lem : (i : ℕ) → i < length posts → post_in (body_of block_of_posts) i ≡ get_or posts i []
-      post_at_lem i l = rw body_is (part_is 48 posts (zeros (500 - length (joined posts))) each i l)
-
-      pub posts_pass : number < 65536 → EachFormed o posts → Passes number o block_of_posts
-      posts_pass small formed =
-          record {
-            frame = ap is_taken (made_passes 3 (length posts) number (posts_body posts) body_long block_of_posts (ap is_taken of_posts_lem) small);
-            body = rw (is_posts, own_rows, pass_taken (own_checks o false (length posts) (posts_body posts)) block_of_posts own_pass);
-            posts = λ e i l.
-                let within : i < length posts = omega (arith, count_is) in
-                ap (λ (s : List ℕ). is_taken (well_formed o s)) (post_at_lem i within) ∙ formed_at o posts formed i within;
-          }
+    pub posts_pass : (o : Outline) → may_post o ≡ true → 1 ≤ n → number < 65536 → All (Formed o) posts → Passes number o block_of_posts
+    posts_pass o turn some small formed =
+        let own = own_pass n (joined posts) long few o false turn refl some in
+        record {
+          frame = ap is_taken (made_passes 3 n number (posts_body posts) (body_long n (joined posts) long few) block_of_posts (ap is_taken of_posts_lem) small);
+          body = rw (is_posts, count_is, body_is, pass_taken (own_checks o false n (posts_body posts)) block_of_posts own);
+          posts = λ e i l.
+              let within : i < n = omega (arith, count_is) in
+              rw (body_is, part_is 48 posts (zeros (500 - length (joined posts))) each i within) (formed i [] within);
+        }

@@ -9,16 +9,16 @@ use borrow.Author.Tests.{eq-eqb, ne_eqb}
 use lib.Dec.{eqb}
 use lib.ListN.{length, length-append}
 use Rattle.std.specs.Prelude.{Ok, Err}
-use Rattle.amounts.specs.Decline.{Answer, is_taken, value_or}
+use Rattle.amounts.specs.Decline.{is_taken, value_or}
 use Rattle.layout.specs.Frame.{block_of}
 use Rattle.pages.specs.Calls.{Call, set_up, post, end, answer_to, run, keep, accepted}
 use Rattle.pages.specs.Page as page
 use Rattle.pages.specs.Page.{Page, fresh_page}
-use Rattle.claims.specs.Written.{Sheet, of_posts, sheets, framed_from, blocks_of, ended_calls, posts_taken}
+use Rattle.claims.specs.Written.{Sheet, of_posts, sheets, framed_from, blocks_of, ended_calls, post_by, posts_taken}
 use Rattle.claims.proofs.written.Accepted.{PostTaken, set_up_taken, post_taken}
 use Rattle.claims.proofs.written.Shows.{Shows, shows_fresh}
 use Rattle.claims.proofs.written.Steps.{shows_set_up, shows_tenth, shows_waiting, shows_same, shows_ended}
-use Rattle.claims.proofs.written.Sheets.{sheets_by, waiting_by, post_by, waiting_after, sheets_first, sheets_last, framed_long, framed_append, taken_first}
+use Rattle.claims.proofs.written.Sheets.{sheets_by, waiting_by, waiting_after, sheets_first, sheets_last, framed_long, framed_append}
 
 -- ---- a call
 
@@ -89,29 +89,20 @@ blocks_first blocks waiting call calls =
 abbrev pub ShowsAfter : List ℕ → List (List ℕ) → List (List ℕ) → List (List ℕ) → List Call → Page → Type 0
 ShowsAfter lent posts blocks waiting calls p = Shows lent (posts ++ posts_taken calls) (blocks_after blocks waiting calls) (waiting_after waiting calls) p
 
-module _ (lent : List ℕ) where
-  abbrev Keeps : List Call → Type 0
-  Keeps calls = (posts blocks waiting : List (List ℕ)) (p : Page) → Shows lent posts blocks waiting p → ShowsAfter lent posts blocks waiting (accepted p calls) (run p calls)
-
-  -- a call more before the others
-  after_first : (posts blocks waiting : List (List ℕ)) (call : Call) (calls : List Call) (p : Page)
-      → ShowsAfter lent (posts ++ post_by call) (blocks_by blocks waiting call) (waiting_by waiting call) calls p → ShowsAfter lent posts blocks waiting (call ∷ calls) p
-  after_first posts blocks waiting call calls p h =
-      rw (← blocks_first blocks waiting call calls, taken_first call calls, ← append_assoc posts (post_by call) (posts_taken calls)) h
-
-  -- the first call, by its answer
-  first_call : (posts blocks waiting : List (List ℕ)) (p : Page) (call : Call) (calls : List Call) → Shows lent posts blocks waiting p → Keeps calls
-      → (a : Answer Page) → answer_to p call ≡ a → ShowsAfter lent posts blocks waiting (keep (is_taken a) call (accepted (value_or p a) calls)) (run (value_or p a) calls)
-  first_call posts blocks waiting p call calls h rest (Err n) e = rest posts blocks waiting p h
-  first_call posts blocks waiting p call calls h rest (Ok q) e =
-      after_first posts blocks waiting call (accepted q calls) (run q calls)
-      (rest (posts ++ post_by call) (blocks_by blocks waiting call) (waiting_by waiting call) q (shows_call lent posts blocks waiting p q call h e))
-
-  -- all calls, one by one
-  shows_all : (calls : List Call) → Keeps calls
-  unfolding run accepted posts_taken sheets framed_from
-  shows_all [] posts blocks waiting p h = rw (append-nil posts, append-nil blocks) h
-  shows_all (call ∷ calls) posts blocks waiting p h = first_call posts blocks waiting p call calls h (shows_all calls) (answer_to p call) refl
+-- all calls, one by one
+shows_all : (lent : List ℕ) (calls : List Call) (posts blocks waiting : List (List ℕ)) (p : Page) → Shows lent posts blocks waiting p
+    → ShowsAfter lent posts blocks waiting (accepted p calls) (run p calls)
+unfolding run accepted sheets framed_from
+shows_all lent [] posts blocks waiting p h = rw (append-nil posts, append-nil blocks) h
+shows_all lent (call ∷ calls) posts blocks waiting p h =
+    (elim (answer_to p call) as
+    (λ a. answer_to p call ≡ a → ShowsAfter lent posts blocks waiting (keep (is_taken a) call (accepted (value_or p a) calls)) (run (value_or p a) calls)) [
+      | Ok q ↦ λ e.
+          let cs : List Call = accepted q calls in
+          rw (← blocks_first blocks waiting call cs, ← append_assoc posts (post_by call) (posts_taken cs))
+          (shows_all lent calls (posts ++ post_by call) (blocks_by blocks waiting call) (waiting_by waiting call) q (shows_call lent posts blocks waiting p q call h e))
+      | Err n ↦ λ e. shows_all lent calls posts blocks waiting p h
+    ]) refl
 
 -- every list of calls from a new writer
 module _ (lent : List ℕ) (calls : List Call) where

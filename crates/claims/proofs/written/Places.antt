@@ -1,12 +1,14 @@
 -- Lists put at a place of a list, and lists one behind the other. Assumes nothing.
 use mathlib.Core.Path.{◌≡◌, refl, sym, ap, ◌∙◌}
 use mathlib.Core.Bool.{true}
-use mathlib.Core.List.{List, [], ◌∷◌, ◌++◌, append_assoc, append-nil}
+use mathlib.Core.List.{List, [], ◌∷◌, ◌++◌, append_assoc}
 use Prim.Native.Nat.{ℕ, zero, suc, ◌+◌, ◌*◌, ◌≤◌, ◌<◌}
 use native.Mathlib.Omega.{arith}
 use lib.ListN.{length, get_or, take, drop, replicate, length-append, length-replicate, replicate-append-replicate}
 use lib.Seq.{take_at, drop_at, drop-drop, drop-append-add, ext_get_or}
 use Rattle.std.proofs.lemmas.Grind.{common_steps}
+use Rattle.std.proofs.lemmas.List.Elements.{All-tail}
+use Rattle.std.specs.List.{All}
 use Rattle.encoding.specs.Bytes.{all_zero, placed}
 use Rattle.encoding.specs.Each.{list_to}
 use Rattle.layout.specs.Posts.{part_of}
@@ -50,30 +52,33 @@ joined-append (l ∷ ls) ks = grind (arith, common_steps, joined-append ls ks)
 
 pub joined_last : {A : Type 0} (ls : List (List A)) (l : List A) → joined (ls ++ (l ∷ [])) ≡ joined ls ++ l
 unfolding joined
-joined_last ls l = joined-append ls (l ∷ []) ∙ ap (λ r. joined ls ++ r) (append-nil l)
+joined_last ls l = grind (arith, common_steps, joined-append ls (l ∷ []))
 
 -- each is n long
 abbrev pub EachLong : {A : Type 0} → ℕ → List (List A) → Type 0
-EachLong n [] = Unit
-EachLong n (l ∷ ls) = (length l ≡ n) × EachLong n ls
+EachLong n ls = All (λ l. length l ≡ n) ls
 
 -- so many as they are, n long each
 pub joined_long : {A : Type 0} (n : ℕ) (ls : List (List A)) → EachLong n ls → length (joined ls) ≡ length ls * n
 unfolding joined
 joined_long n [] h = omega arith
-joined_long n (l ∷ ls) h = grind (arith, common_steps, joined_long n ls)
+joined_long n (l ∷ ls) h =
+    let long : length l ≡ n = h 0 l (omega arith) in
+    grind (arith, common_steps, joined_long n ls (All-tail (λ x. length x ≡ n) l ls h))
 
 -- the parts that they are joined of
 pub part_is : (n : ℕ) (ls : List (List ℕ)) (rest : List ℕ) → EachLong n ls → (i : ℕ) → i < length ls → part_of n (joined ls ++ rest) i ≡ get_or ls i []
 unfolding joined
 part_is n [] rest h i g = absurd (omega arith)
-part_is n (l ∷ ls) rest h zero g = grind (arith, common_steps)
+part_is n (l ∷ ls) rest h zero g =
+    let long : length l ≡ n = h 0 l (omega arith) in
+    grind (arith, common_steps)
 part_is n (l ∷ ls) rest h (suc i) g =
-    let long = h.0 in
+    let long : length l ≡ n = h 0 l (omega arith) in
     let start : suc i * n ≡ length l + i * n = omega arith in
     ap (λ (k : ℕ). take n (drop k ((l ++ joined ls) ++ rest))) start
     ∙ ap (λ (r : List ℕ). take n (drop (length l + i * n) r)) (append_assoc l (joined ls) rest)
-    ∙ ap (take n) (drop-append-add l (joined ls ++ rest) (i * n)) ∙ part_is n ls rest h.1 i (omega arith)
+    ∙ ap (take n) (drop-append-add l (joined ls ++ rest) (i * n)) ∙ part_is n ls rest (All-tail (λ x. length x ≡ n) l ls h) i (omega arith)
 
 -- in order they are the lists
 pub parts_are : (n : ℕ) (ls : List (List ℕ)) (rest : List ℕ) → EachLong n ls → list_to (length ls) (part_of n (joined ls ++ rest)) ≡ ls

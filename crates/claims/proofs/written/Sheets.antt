@@ -7,8 +7,9 @@ use native.Mathlib.Omega.{arith}
 use lib.Dec.{eqb}
 use lib.ListN.{length}
 use Rattle.std.proofs.lemmas.Bool.Decides.{nat_tests}
+use Rattle.std.specs.List.{fold}
 use Rattle.pages.specs.Calls.{Call, set_up, post, end}
-use Rattle.claims.specs.Written.{Sheet, sheet, of_posts, sheets, framed_from, posts_taken}
+use Rattle.claims.specs.Written.{Sheet, sheet, of_posts, sheets, framed_from}
 
 -- the sheets that an accepted call makes where posts wait
 abbrev pub sheets_by : List (List ℕ) → Call → List Sheet
@@ -22,23 +23,14 @@ waiting_by waiting (set_up kind count body) = waiting
 waiting_by waiting (post s) = cond (eqb (length waiting) 9) [] (waiting ++ (s ∷ []))
 waiting_by waiting end = []
 
--- the post that it brings
-abbrev pub post_by : Call → List (List ℕ)
-post_by (set_up kind count body) = []
-post_by (post s) = s ∷ []
-post_by end = []
-
 -- the posts that wait after accepted calls
 abbrev pub waiting_after : List (List ℕ) → List Call → List (List ℕ)
-waiting_after waiting [] = waiting
-waiting_after waiting (call ∷ calls) = waiting_after (waiting_by waiting call) calls
+waiting_after waiting calls = fold waiting_by waiting calls
 
 -- the first call's sheets come first
 pub sheets_first : (waiting : List (List ℕ)) (call : Call) (calls : List Call) → sheets waiting (call ∷ calls) ≡ sheets_by waiting call ++ sheets (waiting_by waiting call) calls
 unfolding sheets
-sheets_first waiting (set_up kind count body) calls = refl
-sheets_first waiting (post s) calls = grind (arith, nat_tests)
-sheets_first waiting end calls = grind (arith, nat_tests)
+sheets_first waiting call calls = grind (arith, nat_tests)
 
 -- the last call's sheets come last
 pub sheets_last : (waiting : List (List ℕ)) (calls : List Call) (call : Call) → sheets waiting (calls ++ (call ∷ [])) ≡ sheets waiting calls ++ sheets_by (waiting_after waiting calls) call
@@ -57,10 +49,3 @@ pub framed_append : (number : ℕ) (xs ys : List Sheet) → framed_from number (
 unfolding framed_from
 framed_append number [] ys = grind arith
 framed_append number (x ∷ xs) ys = grind (arith, framed_append (suc number) xs ys)
-
--- the first call's post comes first
-pub taken_first : (call : Call) (calls : List Call) → posts_taken (call ∷ calls) ≡ post_by call ++ posts_taken calls
-unfolding posts_taken
-taken_first (set_up kind count body) calls = refl
-taken_first (post s) calls = refl
-taken_first end calls = refl

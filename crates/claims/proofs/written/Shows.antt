@@ -4,21 +4,22 @@ use mathlib.Core.Bool.{true}
 use mathlib.Core.List.{List, [], ◌∷◌, ◌++◌, append_assoc, append-nil}
 use Prim.Native.Nat.{ℕ, ◌+◌, ◌-◌, ◌*◌, ◌≤◌, ◌<◌}
 use native.Mathlib.Omega.{arith}
-use lib.ListN.{length, take, drop, length-append, length-drop}
-use lib.Seq.{take_at, drop-drop}
-use Rattle.amounts.specs.Decline.{is_taken}
+use lib.ListN.{length, drop, length-append, length-drop}
+use lib.Seq.{take_at}
+use Rattle.std.proofs.lemmas.Grind.{common_steps, fold-append}
+use Rattle.std.proofs.lemmas.List.Elements.{All-nil, All-push}
+use Rattle.std.specs.List.{All}
 use Rattle.layout.specs.Frame.{body_of, block_of}
 use Rattle.layout.specs.Outline.{fresh_outline, may_post}
 use Rattle.layout.specs.declared.holds.SetupPart.{SetupPart}
 use Rattle.layout.specs.declared.outline.Outline.{Outline}
-use Rattle.post.specs.Moves.{well_formed}
 use Rattle.encoding.specs.Bytes.{placed}
 use Rattle.pages.specs.Page.{Page, fresh_page}
 use Rattle.pages.specs.Tally.{outline_after}
 use Rattle.pages.specs.declared.tally.Tally.{Tally}
 use Rattle.claims.specs.Written.{joined, posts_in, posts_in_all, outline_past, Passes, AllPass}
 use Rattle.claims.proofs.written.Accepted.{SetUpTaken}
-use Rattle.claims.proofs.written.Blocks.{outline_over, outline_last, pass_last, posts_last, set_up_holds, set_up_outline, set_up_passes, EachFormed, formed_last, each_long}
+use Rattle.claims.proofs.written.Blocks.{outline_over, pass_last, posts_last, set_up_holds, set_up_outline, set_up_passes, Formed, each_long}
 use Rattle.claims.proofs.written.Blocks.{posts_body, block_of_posts, posts_outline, posts_held, posts_pass}
 use Rattle.claims.proofs.written.Places.{placed_at, zeros, zeros_long, zeros-append, drop-zeros, joined_last}
 
@@ -51,12 +52,7 @@ module _ (lent : List ℕ) (blocks : List (List ℕ)) (bytes : List ℕ) (filled
       let fits : length x ≤ length (drop so_far lent) = omega (arith, length-drop so_far lent) in
       record {
         bytes_are =
-            ap (λ (b : List ℕ). placed b filled x) h.bytes_are
-            ∙ placed_at j (drop so_far lent) x filled (sym h.filled_is) fits
-            ∙ ap (λ (r : List ℕ). j ++ (x ++ r)) (drop-drop (length x) so_far lent)
-            ∙ sym (append_assoc j x (drop (so_far + length x) lent))
-            ∙ ap (λ (n : ℕ). (j ++ x) ++ drop n lent) (sym (length-append j x))
-            ∙ ap (λ (l : List ℕ). l ++ drop (length l) lent) (sym (joined_last blocks x));
+            rw (h.bytes_are, joined_last blocks x) (grind (arith, common_steps, placed_at j (drop so_far lent) x filled, h.filled_is, fits));
         filled_is = omega arith;
         size = omega (arith, length-append blocks (x ∷ []));
         within = omega arith;
@@ -81,14 +77,7 @@ drafted_next waiting s fits =
     let front : List ℕ = zeros 8 ++ j in
     let room : 504 - length j ≡ length s + m = omega arith in
     let rest : m ≡ 504 - length (j ++ s) = omega (arith, length-append j s) in
-    ap (λ (n : ℕ). placed (zeros 8 ++ (j ++ zeros n)) (8 + length j) s) room
-    ∙ ap (λ (l : List ℕ). placed l (8 + length j) s) (sym (append_assoc (zeros 8) j (zeros (length s + m))))
-    ∙ placed_at front (zeros (length s + m)) s (8 + length j) (length-append (zeros 8) j) (omega (arith, zeros_long (length s + m)))
-    ∙ ap (λ (r : List ℕ). front ++ (s ++ r)) (drop-zeros (length s) m)
-    ∙ append_assoc (zeros 8) j (s ++ zeros m)
-    ∙ ap (λ (r : List ℕ). zeros 8 ++ r) (sym (append_assoc j s (zeros m)))
-    ∙ ap (λ (n : ℕ). zeros 8 ++ ((j ++ s) ++ zeros n)) rest
-    ∙ ap (λ (l : List ℕ). zeros 8 ++ (l ++ zeros (504 - length l))) (sym (joined_last waiting s))
+    grind (arith, common_steps, placed_at front (zeros (length s + m)) s (8 + length j), drop-zeros (length s) m, joined_last waiting s, room, rest)
 
 -- its body is that of the posts' block
 pub drafted_body : (posts : List (List ℕ)) → length (joined posts) ≤ 500 → body_of (drafted posts) ≡ posts_body posts
@@ -97,10 +86,7 @@ drafted_body posts fits =
     let m : ℕ = 500 - length j in
     let more : 504 - length j ≡ m + 4 = omega arith in
     let long : length (j ++ zeros m) ≡ 500 = omega (arith, length-append j (zeros m), zeros_long m) in
-    ap (λ (n : ℕ). take 500 (j ++ zeros n)) more
-    ∙ ap (λ (r : List ℕ). take 500 (j ++ r)) (sym (zeros-append m 4))
-    ∙ ap (take 500) (sym (append_assoc j (zeros m) (zeros 4)))
-    ∙ take_at (j ++ zeros m) (zeros 4) 500 long
+    rw (more, ← zeros-append m 4, ← append_assoc j (zeros m) (zeros 4)) (take_at (j ++ zeros m) (zeros 4) 500 long)
 
 -- ---- what the blocks and the posts that wait tell
 
@@ -109,38 +95,33 @@ pub record Told (posts blocks waiting : List (List ℕ)) (o : Outline) : Type 0 
   pub held : posts_in_all blocks ++ waiting ≡ posts
   pub pass : AllPass 0 fresh_outline blocks
   pub outline : o ≡ outline_over fresh_outline blocks
-  pub formed : EachFormed o waiting
+  pub formed : All (Formed o) waiting
 
 -- a new writer has neither
 pub told_none : Told [] [] [] fresh_outline
-unfolding posts_in_all
-told_none = record { held = refl; pass = tt; outline = refl; formed = tt }
+told_none = record { held = refl; pass = tt; outline = refl; formed = All-nil (Formed fresh_outline) }
 
 -- one post more
-pub told_post : (posts blocks waiting : List (List ℕ)) (o : Outline) (s : List ℕ) → Told posts blocks waiting o → is_taken (well_formed o s) ≡ true
+pub told_post : (posts blocks waiting : List (List ℕ)) (o : Outline) (s : List ℕ) → Told posts blocks waiting o → Formed o s
     → Told (posts ++ (s ∷ [])) blocks (waiting ++ (s ∷ [])) o
 told_post posts blocks waiting o s h e =
     record {
       held = sym (append_assoc (posts_in_all blocks) waiting (s ∷ [])) ∙ ap (λ (l : List (List ℕ)). l ++ (s ∷ [])) h.held;
       pass = h.pass;
       outline = h.outline;
-      formed = formed_last o waiting s h.formed e;
+      formed = All-push (Formed o) waiting s h.formed e;
     }
 
 -- one block more, whose posts were those that waited
 told_block : (posts blocks waiting : List (List ℕ)) (o next : Outline) (x : List ℕ) → Told posts blocks waiting o → posts_in x ≡ waiting → outline_past o x ≡ next
     → Passes (length blocks) o x → Told posts (blocks ++ (x ∷ [])) [] next
 told_block posts blocks waiting o next x h same onward passes =
-    let before : Outline = outline_over fresh_outline blocks in
-    let place : length blocks ≡ 0 + length blocks = omega arith in
+    let place : 0 + length blocks ≡ length blocks = omega arith in
     record {
-      held =
-          append-nil (posts_in_all (blocks ++ (x ∷ []))) ∙ posts_last blocks x ∙ ap (λ (l : List (List ℕ)). posts_in_all blocks ++ l) same ∙ h.held;
-      pass =
-          pass_last 0 fresh_outline blocks x h.pass
-          (subst (λ (n : ℕ). Passes n before x) place (subst (λ (u : Outline). Passes (length blocks) u x) h.outline passes));
-      outline = sym onward ∙ ap (λ (u : Outline). outline_past u x) h.outline ∙ sym (outline_last fresh_outline blocks x);
-      formed = tt;
+      held = rw (append-nil (posts_in_all (blocks ++ (x ∷ []))), posts_last blocks x, same) h.held;
+      pass = pass_last 0 fresh_outline blocks x h.pass (rw (place, ← h.outline) passes);
+      outline = rw (fold-append outline_past fresh_outline blocks (x ∷ []), ← h.outline, onward) refl;
+      formed = All-nil (Formed next);
     }
 
 -- a set-up block, while no post waits

@@ -2,7 +2,7 @@
 use mathlib.Core.Path.{◌≡◌, refl, sym, ap, ap₂, ◌∙◌}
 use mathlib.Core.Bool.{true}
 use mathlib.Core.List.{List, [], ◌∷◌}
-use Prim.Native.Nat.{ℕ, zero, suc, ◌+◌, ◌-◌, ◌*◌, ◌^◌, ◌≤◌, ◌<◌}
+use Prim.Native.Nat.{ℕ, zero, suc, ◌+◌, ◌*◌, ◌^◌, ◌≤◌, ◌<◌}
 use native.Mathlib.Decide.{dec_lt}
 use native.Mathlib.Numerals.{add-one}
 use native.Mathlib.Nat.{zero-add, one-mul, suc-add, mul-zero, mul_comm, mul_assoc, pow-succ'}
@@ -11,10 +11,11 @@ use Rattle.std.specs.Int.{byte_worth, sum_through}
 use native.Mathlib.Omega.{arith}
 use lib.Dec.{leb}
 use borrow.Author.Tests.{leb-true}
-use lib.ListN.{length, replicate, get_or, take, drop, length-drop, drop_of_length-le, get_or-eq_default}
-use lib.Seq.{drop-cons, take_all, length-take-le, ext_get_or, get_or-take}
+use lib.ListN.{length, replicate, get_or, drop, drop_of_length-le, get_or-eq_default}
+use lib.Seq.{drop-cons, length-take-le, ext_get_or, get_or-take}
 use Rattle.encoding.specs.Bytes.{le, first_bytes, all_zero, within}
-use Rattle.encoding.proofs.Each.{and_true, length_list, list_at}
+use Rattle.std.proofs.lemmas.Bool.{and_parts}
+use Rattle.encoding.proofs.Each.{length_list, list_at}
 
 le_nil : (n : ℕ) → le n [] ≡ 0
 unfolding le
@@ -74,14 +75,10 @@ chunk_is s bs n h =
     let below : i < n = omega (arith, ap length h.same, length-take-le n s h.enough) in
     ap (λ (x : List ℕ). get_or x i 0) h.same ∙ get_or-take n s i 0 below ∙ sym (list_at n (λ k. get_or s k 0) i 0 below))
 
--- what `&s[from..]` is
-pub tail_is : (from : ℕ) (s : List ℕ) → take (length s - from) (drop from s) ≡ drop from s
-tail_is from s = take_all (length s - from) (drop from s) (simp length-drop (omega arith))
-
 -- zeros are zero
 pub zeros_zero : (n : ℕ) → all_zero (replicate n 0) ≡ true
 zeros_zero zero = refl
 zeros_zero (suc n) = zeros_zero n
 
 pub within_true : (low high n : ℕ) → within low high n ≡ true → (low ≤ n) × (n ≤ high)
-within_true low high n e = let h = and_true (leb low n) (leb n high) e in (leb-true low n h.0, leb-true n high h.1)
+within_true low high n e = let h = and_parts (leb low n) (leb n high) e in (leb-true low n h.0, leb-true n high h.1)

@@ -1,6 +1,6 @@
 -- What a form's ranges say of its floats. Assumes nothing.
 use mathlib.Core.Path.{◌≡◌}
-use mathlib.Core.Bool.{Bool, true, false, ◌&&◌}
+use mathlib.Core.Bool.{true, false}
 use Prim.Native.Nat.{ℕ, ◌≤◌, ◌<◌}
 use native.Mathlib.Omega.{arith}
 use lib.Ieee.{Float}
@@ -14,18 +14,14 @@ use Rattle.forms.specs.declared.pattern.Range.{Range}
 
 -- ---- what ranges say of each float
 
--- the parts of a joint test
-pub both : (a b : Bool) → (a && b) ≡ true → (a ≡ true) × (b ≡ true)
-both a b e = grind arith
-
 -- each of the four inputs is in its range
-pub each_in_range : (r : Inputs Range) (w u p q : Float) → in_ranges r w u p q ≡ true
-    → (in_range r.w w ≡ true) × (in_range r.u u ≡ true) × (in_range r.p p ≡ true) × (in_range r.q q ≡ true)
-each_in_range r w u p q h = grind arith
+pub each_in_range : (r : Inputs Range) (i : Inputs Float) → in_ranges r i ≡ true
+    → (in_range r.w i.w ≡ true) × (in_range r.u i.u ≡ true) × (in_range r.p i.p ≡ true) × (in_range r.q i.q ≡ true)
+each_in_range r i h = grind arith
 
 -- ---- a form whose floats aren't in their ranges
 
 -- one of the three is declined by 7
-pub not_in_form : (n : ℕ) (w u p q : Float) → 1 ≤ n → n < 4 → in_form n w u p q ≡ false → form_of n w u p q ≡ Err OutOfRange
+pub not_in_form : (n : ℕ) (i : Inputs Float) → 1 ≤ n → n < 4 → in_form n i ≡ false → form_of n i ≡ Err OutOfRange
 unfolding in_form form_of ranged checked
-not_in_form n w u p q low high e = grind arith
+not_in_form n i low high e = grind arith

@@ -14,7 +14,7 @@ fed_all r [] = r
 fed_all r (part ∷ parts) = fed_all (fed r part) parts
 
 -- after a decline nothing changes
-stays_all : (b : Book) (d : Decline) (parts : List (List ℕ)) → fed_all (record { book = b; stopped = Some d }) parts ≡ record { book = b; stopped = Some d }
+pub stays_all : (b : Book) (d : Decline) (parts : List (List ℕ)) → fed_all (record { book = b; stopped = Some d }) parts ≡ record { book = b; stopped = Some d }
 unfolding fed_all
 stays_all b d [] = refl
 stays_all b d (part ∷ parts) = stays_all b d parts

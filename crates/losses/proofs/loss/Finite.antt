@@ -21,10 +21,12 @@ use Rattle.amounts.specs.Decline.{Answer, on_taken}
 use Rattle.amounts.specs.declared.decline.Decline.TheVariants.{Layout, OutOfRange}
 use Rattle.losses.specs.Loss.{floating_roof_kg, fixed_roof_kg, station_kg, kg_of}
 use Rattle.losses.specs.declared.coefficient.CoefficientRow.{CoefficientRow}
+use Rattle.forms.specs.declared.form.Inputs.{Inputs}
 use Rattle.forms.specs.declared.form.LossForm.{LossForm}
 use Rattle.forms.specs.declared.form.LossForm.TheVariants.{FloatingRoof, FixedRoof, Station}
 use Rattle.amounts.proofs.decline.Laws.{one_taken}
-use Rattle.forms.proofs.form.Laws.{both, each_in_range}
+use Rattle.forms.proofs.form.Laws.{each_in_range}
+use Rattle.std.proofs.lemmas.Bool.{and_parts}
 
 -- ---- tests and facts
 -- a test that is `true`, and a test that passes
@@ -250,7 +252,7 @@ exceeds (fin true m e) f = passed (ltb 0 (m * up e * 1 + 2000000 * down e)) _ (l
 pub in_range_lem : (lo hi n : ℕ) → T (leb lo (2 ^ 53) && (leb hi (2 ^ 53) && leb hi (2 ^ n))) → {x : Float} → in_range (lo to hi) x ≡ true → Within n x
 unfolding in_range
 in_range_lem lo hi n t {x} e =
-    let g = both (le (whole lo) x) (le x (whole hi)) (both (finite x) (le (whole lo) x && le x (whole hi)) e).1 in
+    let g = and_parts (le (whole lo) x) (le x (whole hi)) (and_parts (finite x) (le (whole lo) x && le x (whole hi)) e).1 in
     let s = and_r (leb lo (2 ^ 53)) (leb hi (2 ^ 53) && leb hi (2 ^ n)) t in
     enclosed x (exact_whole lo (leb→le lo (2 ^ 53) (and_l (leb lo (2 ^ 53)) (leb hi (2 ^ 53) && leb hi (2 ^ n)) t)))
     (exact_whole hi (leb→le hi (2 ^ 53) (and_l (leb hi (2 ^ 53)) (leb hi (2 ^ n)) s)))
@@ -260,8 +262,8 @@ in_range_lem lo hi n t {x} e =
 pub in_range_one : (hi : ℕ) {x : Float} → in_range (1 to hi) x ≡ true → FromOne x
 unfolding in_range
 in_range_one hi {x} e =
-    let f = both (finite x) (le (whole 1) x && le x (whole hi)) e in
-    from_one_lem x (exact_whole 1 (lit≤ tt)) (T_of f.0) (T_of (both (le (whole 1) x) (le x (whole hi)) f.1).0)
+    let f = and_parts (finite x) (le (whole 1) x && le x (whole hi)) e in
+    from_one_lem x (exact_whole 1 (lit≤ tt)) (T_of f.0) (T_of (and_parts (le (whole 1) x) (le x (whole hi)) f.1).0)
 
 -- "0 to 10^9"
 billion : {x : Float} → in_range (0 to 10 ^ 9) x ≡ true → Within 30 x
@@ -284,12 +286,12 @@ all_within (e ∷ es) = entry_within e && all_within es
 find_within : (es : List Entry) → all_within es ≡ true → (number : ℕ) (row : CoefficientRow) → find number es ≡ Ok row → RowWithin row
 unfolding all_within find
 find_within [] a number row h = cc
-find_within (e ∷ es) a number row h = go (eqb e.number number) h (find_within es (both (entry_within e) (all_within es) a).1 number row)
+find_within (e ∷ es) a number row h = go (eqb e.number number) h (find_within es (and_parts (entry_within e) (all_within es) a).1 number row)
   where
     go : (b : Bool) → row_if b e.row (find number es) ≡ Ok row → (find number es ≡ Ok row → RowWithin row) → RowWithin row
     go true p rest =
         let same : e.row ≡ row = cc in
-        subst RowWithin same (both (in_range (0 to 1) e.row.k) (in_range (1 to 1000) e.row.m) (both (entry_within e) (all_within es) a).0)
+        subst RowWithin same (and_parts (in_range (0 to 1) e.row.k) (in_range (1 to 1000) e.row.m) (and_parts (entry_within e) (all_within es) a).0)
     go false p rest = rest p
 
 -- so each row of the table is in these ranges
@@ -298,27 +300,27 @@ unfolding row_of all_within in_range le round
 rows_within number row h = find_within rows refl number row h
 
 -- ---- the three forms, each step with its own power of two
-floating_within : (row : CoefficientRow) (w u p q : Float) → RowWithin row → in_ranges floating_ranges w u p q ≡ true → Within 49 (floating_roof_kg row w u p)
+floating_within : (row : CoefficientRow) (i : Inputs Float) → RowWithin row → in_ranges floating_ranges i ≡ true → Within 49 (floating_roof_kg row i.w i.u i.p)
 unfolding floating_roof_kg in_range le round
-floating_within row w u p q c h =
-    let r = each_in_range floating_ranges w u p q h in
+floating_within row i c h =
+    let r = each_in_range floating_ranges i h in
     let spread = div_within (in_range_lem 0 4 2 tt {x = whole 4} refl) (in_range_one 1000 r.0) (lit≤ tt) in
     let drawn = mul_within (mul_within (in_range_lem 0 1 0 tt c.0) spread (lit≤ tt)) (in_range_lem 1 1000 10 tt c.1) (lit≤ tt) in
     let percent = div_within (in_range_lem 0 100 7 tt r.1) (in_range_one 100 {x = whole 100} refl) (lit≤ tt) in
     mul_within (mul_within (div_within drawn (in_range_one 100 {x = decimal 224 10} refl) (lit≤ tt)) percent (lit≤ tt)) (billion r.2) (lit≤ tt)
 
-fixed_within : (row : CoefficientRow) (w u p q : Float) → RowWithin row → in_ranges fixed_ranges w u p q ≡ true → Within 70 (fixed_roof_kg row w u p q)
+fixed_within : (row : CoefficientRow) (i : Inputs Float) → RowWithin row → in_ranges fixed_ranges i ≡ true → Within 70 (fixed_roof_kg row i.w i.u i.p i.q)
 unfolding fixed_roof_kg in_range le round
-fixed_within row w u p q c h =
-    let r = each_in_range fixed_ranges w u p q h in
+fixed_within row i c h =
+    let r = each_in_range fixed_ranges i h in
     let density = mul_within (in_range_lem 0 1 0 tt {x = decimal 41 1000} refl) (in_range_lem 1 1000 10 tt c.1) (lit≤ tt) in
     let parts = div_within (billion r.1) (in_range_one (10 ^ 9) r.2) (lit≤ tt) in
     mul_within (mul_within (mul_within density (billion r.0) (lit≤ tt)) parts (lit≤ tt)) (in_range_lem 0 1 0 tt r.3) (lit≤ tt)
 
-station_within : (w u p q : Float) → in_ranges station_ranges w u p q ≡ true → Within 61 (station_kg w u p q)
+station_within : (i : Inputs Float) → in_ranges station_ranges i ≡ true → Within 61 (station_kg i.w i.u i.p i.q)
 unfolding station_kg
-station_within w u p q h =
-    let r = each_in_range station_ranges w u p q h in
+station_within i h =
+    let r = each_in_range station_ranges i h in
     add_within (mul_within (billion r.0) (billion r.1) (lit≤ tt)) (mul_within (billion r.2) (billion r.3) (lit≤ tt)) (lit≤ tt)
 
 -- what is taken with a row is taken with one that was found
@@ -328,29 +330,29 @@ taken_within {n} (Ok row) f x h e = let same : f row ≡ x = cc in subst (Within
 taken_within (Err d) f x h e = cc
 
 -- the kg of a form that is taken, with a row like those of the table where one is used
-pub kg_finite : (form : ℕ) (found : Answer CoefficientRow) (w u p q : Float) (f : LossForm) (x : Float) → ((row : CoefficientRow) → found ≡ Ok row → RowWithin row)
-    → form_of form w u p q ≡ Ok f → kg_of f found ≡ Ok x → (finite x ≡ true) × (le (whole 0) x ≡ true)
+pub kg_finite : (form : ℕ) (found : Answer CoefficientRow) (i : Inputs Float) (f : LossForm) (x : Float) → ((row : CoefficientRow) → found ≡ Ok row → RowWithin row)
+    → form_of form i ≡ Ok f → kg_of f found ≡ Ok x → (finite x ≡ true) × (le (whole 0) x ≡ true)
 unfolding form_of ranged
-kg_finite form found w u p q f x c = go (eqb form 1) (eqb form 2) (eqb form 3)
+kg_finite form found i f x c = go (eqb form 1) (eqb form 2) (eqb form 3)
   where
     go : (a b d : Bool)
-        → cond a (ranged floating_ranges w u p q (FloatingRoof w u p)) (cond b (ranged fixed_ranges w u p q (FixedRoof w u p q))
-        (cond d (ranged station_ranges w u p q (Station w u p q)) (Err Layout))) ≡ Ok f
+        → cond a (ranged floating_ranges i (FloatingRoof i.w i.u i.p)) (cond b (ranged fixed_ranges i (FixedRoof i.w i.u i.p i.q))
+        (cond d (ranged station_ranges i (Station i.w i.u i.p i.q)) (Err Layout))) ≡ Ok f
         → kg_of f found ≡ Ok x → (finite x ≡ true) × (le (whole 0) x ≡ true)
     go true b d h e =
-        let z = one_taken (in_ranges floating_ranges w u p q) OutOfRange (FloatingRoof w u p) f (sym h) in
-        within_finite (taken_within found (λ row. floating_roof_kg row w u p) x (λ row t. floating_within row w u p q (c row t) z.0) (rw z.1 at e))
+        let z = one_taken (in_ranges floating_ranges i) OutOfRange (FloatingRoof i.w i.u i.p) f (sym h) in
+        within_finite (taken_within found (λ row. floating_roof_kg row i.w i.u i.p) x (λ row t. floating_within row i (c row t) z.0) (rw z.1 at e))
     go false true d h e =
-        let z = one_taken (in_ranges fixed_ranges w u p q) OutOfRange (FixedRoof w u p q) f (sym h) in
-        within_finite (taken_within found (λ row. fixed_roof_kg row w u p q) x (λ row t. fixed_within row w u p q (c row t) z.0) (rw z.1 at e))
+        let z = one_taken (in_ranges fixed_ranges i) OutOfRange (FixedRoof i.w i.u i.p i.q) f (sym h) in
+        within_finite (taken_within found (λ row. fixed_roof_kg row i.w i.u i.p i.q) x (λ row t. fixed_within row i (c row t) z.0) (rw z.1 at e))
     go false false true h e =
-        let z = one_taken (in_ranges station_ranges w u p q) OutOfRange (Station w u p q) f (sym h) in
-        let k : Ok (station_kg w u p q) ≡ Ok x = rw z.1 at e in
-        let same : station_kg w u p q ≡ x = cc in
-        within_finite (subst (Within 61) same (station_within w u p q z.0))
+        let z = one_taken (in_ranges station_ranges i) OutOfRange (Station i.w i.u i.p i.q) f (sym h) in
+        let k : Ok (station_kg i.w i.u i.p i.q) ≡ Ok x = rw z.1 at e in
+        let same : station_kg i.w i.u i.p i.q ≡ x = cc in
+        within_finite (subst (Within 61) same (station_within i z.0))
     go false false false h e = cc
 
 -- the same of a substance's number
-pub vapour_kg_finite : (form number : ℕ) (w u p q : Float) (f : LossForm) (x : Float) → form_of form w u p q ≡ Ok f → kg_of f (row_of number) ≡ Ok x
+pub vapour_kg_finite : (form number : ℕ) (i : Inputs Float) (f : LossForm) (x : Float) → form_of form i ≡ Ok f → kg_of f (row_of number) ≡ Ok x
     → (finite x ≡ true) × (le (whole 0) x ≡ true)
-vapour_kg_finite form number w u p q f x = kg_finite form (row_of number) w u p q f x (rows_within number)
+vapour_kg_finite form number i f x = kg_finite form (row_of number) i f x (rows_within number)

@@ -11,6 +11,7 @@ use Rattle.amounts.specs.Decline.{Answer, checked}
 use Rattle.amounts.specs.declared.decline.Decline.TheVariants.{OutOfRange, Excess}
 use Rattle.losses.specs.Coefficient.{row_of}
 use Rattle.forms.specs.Form.{form_of, in_form}
+use Rattle.forms.specs.declared.form.Inputs.{Inputs}
 use Rattle.losses.specs.Loss.{micrograms_of, kg_of, limited_of, loss_of, loss_over, vapour_of}
 use Rattle.losses.specs.Whole.{whole_part}
 use Rattle.losses.specs.declared.coefficient.CoefficientRow.{CoefficientRow}
@@ -82,25 +83,25 @@ unfolding loss_of
 loss_bounded form found n e = let z = was_taken (kg_of form found) limited_of n e in limited_bounded z.0 n z.2
 
 -- by a form's number, over any row
-pub over_bounded : (form : ℕ) (found : Answer CoefficientRow) (w u p q : Float) (n : ℕ) → loss_over form found w u p q ≡ Ok n → n ≤ 2000000000000000
+pub over_bounded : (form : ℕ) (found : Answer CoefficientRow) (i : Inputs Float) (n : ℕ) → loss_over form found i ≡ Ok n → n ≤ 2000000000000000
 unfolding loss_over
-over_bounded form found w u p q n e = let z = was_taken (form_of form w u p q) (λ f. loss_of f found) n e in loss_bounded z.0 found n z.2
+over_bounded form found i n e = let z = was_taken (form_of form i) (λ f. loss_of f found) n e in loss_bounded z.0 found n z.2
 
 -- where the floats of one of the three forms aren't in their ranges it is a 7
-pub over_range : (form : ℕ) (found : Answer CoefficientRow) (w u p q : Float) → 1 ≤ form → form < 4 → in_form form w u p q ≡ false → loss_over form found w u p q ≡ Err OutOfRange
+pub over_range : (form : ℕ) (found : Answer CoefficientRow) (i : Inputs Float) → 1 ≤ form → form < 4 → in_form form i ≡ false → loss_over form found i ≡ Err OutOfRange
 unfolding loss_over
-over_range form found w u p q low high e = rw (not_in_form form w u p q low high e)
+over_range form found i low high e = rw (not_in_form form i low high e)
 
 -- a station's loss is the same over any two rows
-pub station_alone : (found other : Answer CoefficientRow) (w u p q : Float) → loss_over 3 found w u p q ≡ loss_over 3 other w u p q
+pub station_alone : (found other : Answer CoefficientRow) (i : Inputs Float) → loss_over 3 found i ≡ loss_over 3 other i
 unfolding loss_over form_of loss_of checked
-station_alone found other w u p q = grind arith
+station_alone found other i = grind arith
 
 -- a loss called alone is that of its substance's row
-pub vapour_over : (form number : ℕ) (w u p q : Float) → 1 ≤ number → vapour_of form number w u p q ≡ loss_over form (row_of number) w u p q
+pub vapour_over : (form number : ℕ) (i : Inputs Float) → 1 ≤ number → vapour_of form number i ≡ loss_over form (row_of number) i
 unfolding vapour_of
-vapour_over form number w u p q h = grind (arith, nat_tests)
+vapour_over form number i h = grind (arith, nat_tests)
 
-pub vapour_bounded : (form number : ℕ) (w u p q : Float) (n : ℕ) → vapour_of form number w u p q ≡ Ok n → n ≤ 2000000000000000
+pub vapour_bounded : (form number : ℕ) (i : Inputs Float) (n : ℕ) → vapour_of form number i ≡ Ok n → n ≤ 2000000000000000
 unfolding vapour_of
-vapour_bounded form number w u p q n e = grind (arith, over_bounded form (row_of number) w u p q n)
+vapour_bounded form number i n e = grind (arith, over_bounded form (row_of number) i n)

@@ -16,15 +16,11 @@ use Rattle.layout.specs.Frame.{body_of, block_of}
 use Rattle.layout.specs.declared.holds.SetupPart.{SetupPart}
 use Rattle.kinds.specs.Kind.{Row}
 use Rattle.pages.proofs.tally.Laws as laws
-use Rattle.pages.proofs.tally.Laws.{Free, tally_fresh}
-use Rattle.pages.specs.Page.{Page, page_of, draft_of, fresh_draft, fresh_page, with_post, with_part, posts_block, finished, posted, post_on, set_up_on, ended, Sound, Answers}
+use Rattle.pages.proofs.tally.Laws.{Free}
+use Rattle.pages.specs.Page.{Page, page_of, draft_of, fresh_draft, with_post, with_part, posts_block, finished, posted, post_on, set_up_on, ended, Sound, Answers}
 use Rattle.pages.specs.Tally as tally
 use Rattle.pages.specs.Tally.{part_of_kind, set_up_checks, post_answer, Begun, Counts}
 use Rattle.pages.specs.declared.tally.Tally.{Tally}
-
--- nothing is filled, and no post waits
-pub page_fresh : (lent : List ℕ) → Sound (fresh_page lent)
-page_fresh lent = record { counted = tally_fresh (length lent); filled_is = refl }
 
 -- ---- a page answers as its tally does
 
@@ -156,9 +152,6 @@ module _ (p : Page) (sound : Sound p) (s : List ℕ) (u : Tally) (c : Counts p.d
   post_is : u ≡ tally.posted v
   post_is = c.after ∙ ap (value_or v) (laws.post_on_is (length p.bytes) v s) ∙ ap (λ (a : Answer Unit). value_or v (on_taken a (λ _. Ok (tally.posted v)))) (sym passes)
 
-  pub post_room : Begun (length p.bytes) v
-  post_room = laws.post_taken (length p.bytes) v sound.counted s passes
-
   -- the tenth
   pub tenth_written : (block bytes : List ℕ) → v.waiting ≡ 9 → block ≡ with_post p.draft s → bytes ≡ placed p.bytes (v.blocks * 512) (posts_block 10 v.blocks block)
       → Answers p (post_on p s) (Ok tt) (page_of bytes (u.blocks * 512) (fresh_draft u))
@@ -182,9 +175,6 @@ module _ (p : Page) (sound : Sound p) (s : List ℕ) (u : Tally) (c : Counts p.d
       rw (post_as p s) (taken p _ _ (λ _. posted p s) u c page)
 
 module _ (p : Page) (sound : Sound p) (u : Tally) (e : u ≡ tally.ended p.draft.tally) where
-  pub end_room : (p.draft.tally.waiting ≡ 0 → ⊥) → Begun (length p.bytes) p.draft.tally
-  end_room n = sound.counted.begun (omega (arith, n))
-
   pub end_nothing : p.draft.tally.waiting ≡ 0 → page_of p.bytes (u.blocks * 512) (draft_of u p.draft.block) ≡ ended p
   unfolding ended tally.ended
   end_nothing z =

@@ -11,7 +11,7 @@ use Rattle.std.specs.Prelude.{Ok, Err}
 use Rattle.amounts.specs.Decline.{Answer, Check, check, checked, on_taken, verdict_of}
 use Rattle.amounts.specs.declared.decline.Decline.TheVariants.{OutOfTurn, NoRoom}
 use Rattle.layout.proofs.Checked.{AllPass, passed, pass_both}
-use Rattle.encoding.proofs.Each.{and_true}
+use Rattle.std.proofs.lemmas.Bool.{and_parts}
 use Rattle.layout.specs.Holds.{holds_of}
 use Rattle.layout.specs.Outline.{may_post, may_set_up, may_describe}
 use Rattle.layout.specs.declared.holds.Holds.{Holds}
@@ -21,7 +21,7 @@ use Rattle.layout.specs.declared.holds.SetupPart.TheVariants.{Materials, Stage}
 use Rattle.layout.specs.declared.outline.Outline.{Outline}
 use Rattle.kinds.specs.Kind.{Row}
 use Rattle.post.specs.Moves.{well_formed}
-use Rattle.pages.specs.Tally.{fresh_tally, is_free, as_part, part_of_kind, part_checks, set_up_checks, may_begin, post_answer, finished, posted, ended}
+use Rattle.pages.specs.Tally.{is_free, as_part, part_of_kind, part_checks, set_up_checks, may_begin, post_answer, finished, posted, ended}
 use Rattle.pages.specs.Tally.{set_up, part_on, set_up_on, post_on, Begun, Sound}
 use Rattle.pages.specs.declared.tally.Tally.{Tally}
 
@@ -96,7 +96,7 @@ not_set_up o e = rw e
 
 not_described : (o : Outline) (stage : ℕ) → may_describe o stage ≡ true → may_post o ≡ false
 not_described o stage e =
-    let l = ltb-true o.described o.stages (and_true (ltb o.described o.stages) (eqb stage o.described) e).0 in
+    let l = ltb-true o.described o.stages (and_parts (ltb o.described o.stages) (eqb stage o.described) e).0 in
     rw (ne_eqb o.described o.stages (λ q. omega arith)) (none (not (eqb o.substances 0)))
   where
     none : (t : Bool) → (t && false) ≡ false
@@ -114,7 +114,7 @@ next_stage o part count body h e = (subst (λ (p : SetupPart). AllPass (part_che
 
 pub stage_is : (o : Outline) (count : ℕ) → may_describe o count ≡ true → (o.described < o.stages) × (count ≡ o.described)
 stage_is o count e =
-    let z = and_true (ltb o.described o.stages) (eqb count o.described) e in (ltb-true o.described o.stages z.0, eqb-true count o.described z.1)
+    let z = and_parts (ltb o.described o.stages) (eqb count o.described) e in (ltb-true o.described o.stages z.0, eqb-true count o.described z.1)
 
 -- 13: there is room for one more block
 pub record Free (room : ℕ) (t : Tally) : Type 0 where
@@ -123,7 +123,7 @@ pub record Free (room : ℕ) (t : Tally) : Type 0 where
 
 pub is_free_lem : (room : ℕ) (t : Tally) → is_free room t ≡ true → Free room t
 is_free_lem room t e =
-    let z = and_true (ltb t.blocks 65536) (leb (t.blocks * 512 + 512) room) e in
+    let z = and_parts (ltb t.blocks 65536) (leb (t.blocks * 512 + 512) room) e in
     record { number = ltb-true t.blocks 65536 z.0; fits = leb-true (t.blocks * 512 + 512) room z.1 }
 
 -- what a part of the set-up that passes its checks tells
@@ -228,7 +228,3 @@ post_on_taken room t s u e = go (post_answer room t s) e
     go : (a : Answer Row) → on_taken a (λ _. Ok (posted t)) ≡ Ok u → u ≡ posted t
     go (Ok k) f = cc
     go (Err n) f = cc
-
--- a new writer's tally, in a buffer of any length
-pub tally_fresh : (room : ℕ) → Sound room fresh_tally
-tally_fresh room = record { few = omega arith; blocks_few = omega arith; within = omega arith; begun = λ h. absurd (omega (arith, h)) }

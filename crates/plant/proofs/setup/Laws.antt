@@ -7,11 +7,16 @@ use lib.ListN.{drop, get_or}
 use lib.Seq.{drop-drop, get_or-drop}
 use denote.Param.Members.{Mut}
 use Rattle.std.specs.Array.{IsFromFnResult}
+use Rattle.std.specs.Prelude.{Ok, Err}
+use Rattle.amounts.specs.Decline.{checked}
+use Rattle.amounts.specs.declared.decline.Decline.{Decline}
+use Rattle.layout.proofs.Checked.{accepts, declines}
 use Rattle.encoding.specs.Bytes.{le, les}
 use Rattle.encoding.specs.Each.{sum_to}
 use Rattle.encoding.proofs.Each.{list_made}
 use Rattle.encoding.proofs.bytes.Laws.{le_small}
-use Rattle.plant.specs.Setup.{row_sum}
+use Rattle.plant.specs.Setup.{row_sum, setup_checks, setup_of, set_up_on}
+use Rattle.plant.specs.declared.setup.Setup.{Setup}
 use Rattle.plant.proofs.Ranges.{Computes}
 
 -- ---- numbers of w bytes, one after the other from a place of s on, read into an array
@@ -33,3 +38,14 @@ pub row_small : (s : List ℕ) → ((i : ℕ) → get_or s i 0 < 256) → row_su
 row_small s h =
     let each : (i : ℕ) → le 4 (drop (i * 4) s) < 4294967296 = λ i. le_small 4 (drop (i * 4) s) (λ k. rw (get_or-drop (i * 4) s k 0) (h (i * 4 + k))) in
     omega (arith, words_small 8 (λ i. le 4 (drop (i * 4) s)) each)
+
+-- ---- a kind 1 block by the verdict of its checks
+
+module _ (u : Setup) (count : ℕ) (body : List ℕ) where
+  pub set_up_declined : (d : Decline) → Err d ≡ checked (setup_checks u.outline count body) (tt {0}) → set_up_on u count body ≡ Err d
+  unfolding set_up_on
+  set_up_declined d e = declines (tt {0}) (setup_of count body) (setup_checks u.outline count body) d e
+
+  pub set_up_taken : {t : Unit} → Ok t ≡ checked (setup_checks u.outline count body) (tt {0}) → set_up_on u count body ≡ Ok (setup_of count body)
+  unfolding set_up_on
+  set_up_taken e = accepts (tt {0}) (setup_of count body) (setup_checks u.outline count body) e

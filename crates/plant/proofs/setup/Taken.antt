@@ -7,13 +7,14 @@ use native.Mathlib.Omega.{arith}
 use lib.Dec.{leb}
 use lib.ListN.{length, get_or, replicate, length-replicate}
 use borrow.Author.Tests.{eqb-true, eq-eqb, leb-true}
-use Rattle.amounts.specs.Class.{is_class}
-use Rattle.amounts.specs.Content.{counted_from, counted_of}
-use Rattle.std.specs.Prelude.{Ok}
-use Rattle.amounts.specs.Decline.{check, checked, value_or}
+use Rattle.amounts.specs.Class.{class_of}
+use Rattle.amounts.specs.declared.class.Class.{Class}
+use Rattle.amounts.specs.Content.{is_ppm, counted_from, counts, counted_of}
+use Rattle.std.specs.Prelude.{Ok, Err}
+use Rattle.amounts.specs.Decline.{Answer, check, checked, on_taken, value_or}
 use Rattle.amounts.specs.declared.decline.Decline.TheVariants.{Layout}
 use Rattle.layout.specs.Outline.{may_post}
-use Rattle.plant.specs.Setup.{no_rates, materials_in, stages_in, classes_in, contents_in, counted_all, setup_checks, fresh_setup, setup_of, Rated, SoundSetup}
+use Rattle.plant.specs.Setup.{no_rates, no_pair, no_stage, materials_in, stages_in, classes_in, contents_in, counted_all, setup_checks, fresh_setup, setup_of, Rated, SoundSetup}
 use Rattle.layout.specs.declared.outline.Outline.{Outline}
 use Rattle.layout.proofs.Checked.{passed}
 use Rattle.encoding.proofs.Each.{list_keeps}
@@ -27,10 +28,10 @@ same_at (suc n) (suc i) a = same_at n i a
 
 pub no_rates_rated : Rated no_rates
 no_rates_rated =
-    record { gas_removal = omega arith; gas_destruction = omega arith; water_removal = omega arith; water_destruction = omega arith }
+    record { gas = (omega arith, omega arith); water = (omega arith, omega arith) }
 
-pub none_rated : (n pair : ℕ) → Rated (get_or (replicate n no_rates) pair no_rates)
-none_rated n pair = rw (same_at n pair no_rates) no_rates_rated
+pub none_rated : (n pair : ℕ) → Rated (get_or (replicate n no_pair) pair no_pair).rates
+none_rated n pair = rw (same_at n pair no_pair) no_rates_rated
 
 pub fresh_sound : SoundSetup fresh_setup
 fresh_sound =
@@ -42,22 +43,23 @@ fresh_sound =
       stages_later = λ e. refl;
       counted_small = λ i. omega (arith, same_at {A = ℕ} 96 i 0);
       rated = none_rated 64;
-      rates_long = length-replicate 64 no_rates;
-      sides_long = length-replicate 64 false;
-      sewer_long = length-replicate 8 false;
-      landfill_long = length-replicate 8 false;
+      pairs_long = length-replicate 64 no_pair;
+      stages_long = length-replicate 8 no_stage;
     }
 
 -- a content that counts is at most the whole
 counted_le : (class ppm : ℕ) → value_or 0 (counted_of class ppm) ≤ 1000000
 unfolding counted_of checked
-counted_le class ppm = go (is_class class) (leb ppm 1000000) (leb (counted_from class) ppm) refl
+counted_le class ppm = by (class_of class)
   where
-    go : (t u v : Bool) → leb ppm 1000000 ≡ u → value_or 0 (checked (check t Layout ∷ check u Layout ∷ []) (cond v ppm 0)) ≤ 1000000
-    go false u v e = omega arith
-    go true false v e = omega arith
-    go true true true e = leb-true ppm 1000000 e
-    go true true false e = omega arith
+    go : (t u : Bool) → leb ppm 1000000 ≡ t → value_or 0 (checked (check t Layout ∷ []) (cond u ppm 0)) ≤ 1000000
+    go false u e = omega arith
+    go true true e = leb-true ppm 1000000 e
+    go true false e = omega arith
+
+    by : (x : Answer Class) → value_or 0 (on_taken x (λ c. checked (check (is_ppm ppm) Layout ∷ []) (counts c ppm))) ≤ 1000000
+    by (Ok c) = go (leb ppm 1000000) (leb (counted_from c) ppm) refl
+    by (Err d) = omega arith
 
 counted_all_le : (classes contents : List ℕ) (i : ℕ) → get_or (counted_all classes contents) i 0 ≤ 1000000
 counted_all_le classes contents =
@@ -99,8 +101,6 @@ sound_set_up o count body a =
       stages_later = λ e. absurd (omega (arith, a.substances.0));
       counted_small = counted_all_le (classes_in body) (contents_in body);
       rated = none_rated 64;
-      rates_long = length-replicate 64 no_rates;
-      sides_long = length-replicate 64 false;
-      sewer_long = length-replicate 8 false;
-      landfill_long = length-replicate 8 false;
+      pairs_long = length-replicate 64 no_pair;
+      stages_long = length-replicate 8 no_stage;
     }

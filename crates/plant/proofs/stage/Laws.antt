@@ -10,10 +10,9 @@ use Rattle.amounts.specs.declared.decline.Decline.{Decline}
 use Rattle.amounts.specs.declared.decline.Decline.TheVariants.{Layout}
 use Rattle.encoding.specs.Bytes.{le}
 use Rattle.encoding.specs.Each.{put_to}
-use Rattle.layout.specs.Outline.{with_described}
 use Rattle.plant.specs.Setup.{no_rates}
-use Rattle.plant.specs.Stage.{second_of, sewered, landfilled, water_row, rates_at, rate_row}
-use Rattle.plant.specs.declared.setup.Rates.{Rates}
+use Rattle.plant.specs.Stage.{second_of, rates_at, pair_row}
+use Rattle.plant.specs.declared.setup.Pair.{Pair}
 use Rattle.plant.specs.declared.setup.Setup.{Setup}
 
 -- nothing stands behind the last byte
@@ -33,34 +32,19 @@ second_declines byte d e = go (eqb byte 1) (eqb byte 2) e
 
 -- ---- the set-up with a stage more
 
--- the set-up with a stage of which the first n pairs are written
-abbrev pub staged : Setup → ℕ → List ℕ → ℕ → Setup
-staged u stage body n =
-    record {
-      outline = with_described u.outline stage;
-      numbers = u.numbers;
-      classes = u.classes;
-      counted = u.counted;
-      to_sewer = set u.to_sewer stage (sewered body);
-      to_landfill = set u.to_landfill stage (landfilled body);
-      to_water = put_to (λ i. stage * 8 + i) (water_row (drop 2 body)) u.to_water n;
-      rates = put_to (λ i. stage * 8 + i) (rate_row (drop 2 body)) u.rates n;
-    }
-
-abbrev pub written : Setup → ℕ → Bool → Rates → Setup
-written u pair side rates =
+-- the set-up with the first n pairs of a stage
+abbrev pub paired : Setup → ℕ → List ℕ → ℕ → Setup
+paired u stage body n =
     record {
       outline = u.outline;
       numbers = u.numbers;
       classes = u.classes;
       counted = u.counted;
-      to_sewer = u.to_sewer;
-      to_landfill = u.to_landfill;
-      to_water = set u.to_water pair side;
-      rates = set u.rates pair rates;
+      stages = u.stages;
+      pairs = put_to (λ i. stage * 8 + i) (pair_row (drop 2 body)) u.pairs n;
     }
 
-pub staged_more : (u : Setup) (stage : ℕ) (body : List ℕ) (i : ℕ) (next : Setup) (side : Bool) (rates : Rates) → next ≡ staged u stage body i
-    → side ≡ water_row (drop 2 body) i → rates ≡ rate_row (drop 2 body) i → written next (stage * 8 + i) side rates ≡ staged u stage body (i + 1)
+pub paired_more : (u : Setup) (stage : ℕ) (body : List ℕ) (i : ℕ) (pair : Pair) → pair ≡ pair_row (drop 2 body) i
+    → set (paired u stage body i).pairs (stage * 8 + i) pair ≡ (paired u stage body (i + 1)).pairs
 unfolding put_to
-staged_more u stage body i next side rates e p q = rw (add-one i, e, p, q)
+paired_more u stage body i pair p = rw (add-one i, p)

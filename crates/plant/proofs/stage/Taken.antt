@@ -8,29 +8,27 @@ use lib.Dec.{eqb, ltb}
 use lib.ListN.{length, drop, length-set}
 use borrow.Author.Tests.{eqb-true, ne_eqb, leb-true, ltb-true}
 use Rattle.amounts.specs.Content.{is_ppm}
+use Rattle.amounts.specs.Treatment.{is_rate}
+use Rattle.amounts.specs.declared.treatment.Rate.{Rate}
 use Rattle.std.specs.Prelude.{Ok}
 use Rattle.amounts.specs.Decline.{Answer, is_taken, checked}
 use Rattle.layout.specs.Outline.{may_post}
-use Rattle.plant.specs.Setup.{no_rates, Rated, SoundSetup}
-use Rattle.plant.specs.Stage.{sewered, landfilled, side_row, water_row, rate_row, pair_fits, all_pairs_fit, stage_checks, with_stage}
+use Rattle.plant.specs.Setup.{no_pair, IsRated, Rated, SoundSetup}
+use Rattle.plant.specs.Stage.{stage_of, side_row, rate_row, pair_row, pair_fits, all_pairs_fit, stage_checks, with_stage}
 use Rattle.layout.specs.declared.outline.Outline.{Outline}
 use Rattle.plant.specs.declared.setup.Rates.{Rates}
 use Rattle.plant.specs.declared.setup.Setup.{Setup}
 use Rattle.layout.proofs.Checked.{passed}
-use Rattle.encoding.proofs.Each.{and_true, all_at, length-put, put_keeps}
+use Rattle.std.proofs.lemmas.Bool.{and_parts}
+use Rattle.encoding.proofs.Each.{all_at, length-put, put_keeps}
+
+fit_rate : (r : Rate) → is_rate r ≡ true → IsRated r
+fit_rate r e = let z = and_parts (is_ppm r.removal) (is_ppm r.destruction) e in (leb-true r.removal 1000000 z.0, leb-true r.destruction 1000000 z.1)
 
 fit_rated : (side : Answer Bool) (r : Rates) → pair_fits side r ≡ true → Rated r
 fit_rated side r e =
-    let first = and_true (is_taken side) (is_ppm r.gas_removal && (is_ppm r.gas_destruction && (is_ppm r.water_removal && is_ppm r.water_destruction))) e in
-    let removal = and_true (is_ppm r.gas_removal) (is_ppm r.gas_destruction && (is_ppm r.water_removal && is_ppm r.water_destruction)) first.1 in
-    let destruction = and_true (is_ppm r.gas_destruction) (is_ppm r.water_removal && is_ppm r.water_destruction) removal.1 in
-    let water = and_true (is_ppm r.water_removal) (is_ppm r.water_destruction) destruction.1 in
-    record {
-      gas_removal = leb-true r.gas_removal 1000000 removal.0;
-      gas_destruction = leb-true r.gas_destruction 1000000 destruction.0;
-      water_removal = leb-true r.water_removal 1000000 water.0;
-      water_destruction = leb-true r.water_destruction 1000000 water.1;
-    }
+    let z = and_parts (is_rate r.gas) (is_rate r.water) (and_parts (is_taken side) (is_rate r.gas && is_rate r.water) e).1 in
+    record { gas = fit_rate r.gas z.0; water = fit_rate r.water z.1 }
 
 -- what an accepted block's checks tell
 pub record Accepts (o : Outline) (stage : ℕ) (body : List ℕ) : Type 0 where
@@ -44,7 +42,7 @@ pub record Accepts (o : Outline) (stage : ℕ) (body : List ℕ) : Type 0 where
 pub accepted : {A : Type 0} (o : Outline) (stage : ℕ) (body : List ℕ) (x y : A) → checked (stage_checks o stage body) x ≡ Ok y → Accepts o stage body × (y ≡ x)
 accepted o stage body x y e =
     let h = passed (stage_checks o stage body) x y e in
-    let named = and_true (ltb o.described o.stages) (eqb stage o.described) h.0.0 in (
+    let named = and_parts (ltb o.described o.stages) (eqb stage o.described) h.0.0 in (
       record {
         next = eqb-true stage o.described named.1;
         left = ltb-true o.described o.stages named.0;
@@ -68,12 +66,10 @@ sound_stage u stage body h a =
       stages_later = h.stages_later;
       counted_small = h.counted_small;
       rated =
-          put_keeps (λ i. stage * 8 + i) (rate_row (drop 2 body)) u.rates Rated no_rates h.rated n
+          put_keeps (λ i. stage * 8 + i) (pair_row (drop 2 body)) u.pairs (λ p. Rated p.rates) no_pair h.rated n
           (λ i l. fit_rated (side_row (drop 2 body) i) (rate_row (drop 2 body) i) (fit i a.pairs l));
-      rates_long = length-put (λ i. stage * 8 + i) (rate_row (drop 2 body)) u.rates n ∙ h.rates_long;
-      sides_long = length-put (λ i. stage * 8 + i) (water_row (drop 2 body)) u.to_water n ∙ h.sides_long;
-      sewer_long = length-set u.to_sewer stage (sewered body) ∙ h.sewer_long;
-      landfill_long = length-set u.to_landfill stage (landfilled body) ∙ h.landfill_long;
+      pairs_long = length-put (λ i. stage * 8 + i) (pair_row (drop 2 body)) u.pairs n ∙ h.pairs_long;
+      stages_long = length-set u.stages stage (stage_of body) ∙ h.stages_long;
     }
 
 -- no post may come while a stage is left to describe

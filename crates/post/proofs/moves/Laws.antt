@@ -1,7 +1,7 @@
 -- Reading a post and its move, and what a move that is read tells. Assumes nothing.
 use Rattle.std.proofs.Common.{◌≡◌, ℕ, ◌*◌, ◌≤◌, ◌<◌, ◌^◌, Bool, true, false, List, [], ◌∷◌, length, get_or, eqb, refl, sym, ap, subst, ◌∙◌, cond, arith}
 use Rattle.std.specs.Prelude.{Ok, Err}
-use Rattle.forms.specs.Binary64.{value_of}
+use Rattle.forms.specs.Form.{values_of}
 use Rattle.losses.specs.Coefficient.{row_of}
 use Rattle.losses.proofs.loss.Laws.{over_bounded, over_range}
 use Rattle.amounts.specs.Decline.{Answer, check, checked, on_taken}
@@ -17,7 +17,7 @@ use Rattle.kinds.specs.declared.kind.Does.TheVariants.{Receives, Issues, Brings,
 use Rattle.kinds.specs.declared.kind.Measure.{Measure}
 use Rattle.kinds.specs.declared.kind.Measure.TheVariants.{Quantity, Content, Loss}
 use Rattle.kinds.proofs.kind.Laws.{Measured, Within, within}
-use Rattle.post.specs.Moves.{floats_fit, measured, move_of, move_in, laid_out, well_formed, move_at}
+use Rattle.post.specs.Moves.{floats_of, floats_fit, measured, move_of, move_in, laid_out, well_formed, move_at}
 use Rattle.post.specs.Steps.{laid_as, laid_of, amount_read, Fits}
 use Rattle.post.specs.declared.moves.Laid.{Laid}
 use Rattle.post.specs.declared.moves.Move.{Move}
@@ -96,7 +96,7 @@ module _ (numbers : List ℕ) (p : Post) where
   unfolding amount_read checked
   amount_unfit Quantity e h = rw e
   amount_unfit Content e h = rw e
-  amount_unfit Loss e h = sym (over_range p.material (row_of (get_or numbers p.substance 0)) (value_of p.w) (value_of p.u) (value_of p.p) (value_of p.q) h.0 h.1 e)
+  amount_unfit Loss e h = sym (over_range p.material (row_of (get_or numbers p.substance 0)) (values_of (floats_of p)) h.0 h.1 e)
 
 -- so that 6, 7 and then the amount is what is read
 abbrev MoveRead : Outline → List ℕ → List ℕ → Type 0
@@ -131,7 +131,7 @@ module _ (o : Outline) (numbers : List ℕ) (p : Post) (n : ℕ) where
   unfolding measured
   amount_of Quantity h e = let is : p.quantity ≡ n = cc in omega arith
   amount_of Content h e = let is : p.quantity * p.content ≡ n = cc in omega arith
-  amount_of Loss h e = over_bounded _ _ _ _ _ _ n e
+  amount_of Loss h e = over_bounded _ _ _ n e
 
   grams_of : (m : Measure) → (m ≡ Quantity) × (p.quantity ≤ 2000000000) → measured m numbers p ≡ Ok n → n ≤ 2000000000
   unfolding measured

@@ -3,12 +3,13 @@ use mathlib.Core.Path.{◌≡◌, refl, sym, ap, ◌∙◌}
 use mathlib.Core.Bool.{true}
 use mathlib.Core.List.{List, [], ◌∷◌, map}
 use Prim.Native.Nat.{ℕ, suc}
-use Rattle.std.specs.Prelude.{Ok, Err}
+use Rattle.std.specs.Prelude.{Result, Ok, Err}
 use Rattle.amounts.specs.Decline.{Answer, is_taken, value_or}
 use Rattle.pages.specs.Calls.{Call, answer_to, after, keep, run, accepted}
 use Rattle.pages.specs.Page.{Page, fresh_page, ended}
 use Rattle.records.specs.Records.{Recorded, call, malformed, records_in}
-use Rattle.records.specs.Batch.{Outcome, complete, onward, refused, write_all, calls_of, BatchIsItsCalls}
+use Rattle.records.specs.declared.batch.Stopped.{Stopped}
+use Rattle.records.specs.Batch.{onward, refused, write_all, calls_of, BatchIsItsCalls}
 
 -- what the page after records is, and that each of their calls is accepted
 abbrev Theirs : Page → Page → List Call → Type 0
@@ -25,11 +26,11 @@ one_more p q r c calls e h =
     )
 
 -- an answer that leads on to a page was taken
-led_on : (a : Answer Page) (place : ℕ) (next : Page → Outcome) (q : Page) → onward (refused a) place next ≡ complete q → (r : Page) × (a ≡ Ok r) × (next r ≡ complete q)
+led_on : (a : Answer Page) (place : ℕ) (next : Page → Result Page Stopped) (q : Page) → onward (refused a) place next ≡ Ok q → (r : Page) × (a ≡ Ok r) × (next r ≡ Ok q)
 led_on (Ok r) place next q e = (r, refl, e)
 led_on (Err n) place next q e = cc
 
-calls_are : (p q : Page) (place : ℕ) (records : List Recorded) → write_all p place records ≡ complete q → Theirs p q (calls_of records)
+calls_are : (p q : Page) (place : ℕ) (records : List Recorded) → write_all p place records ≡ Ok q → Theirs p q (calls_of records)
 unfolding write_all calls_of accepted run
 calls_are p q place [] e = let is : q ≡ ended p = cc in (refl, is)
 calls_are p q place (call c ∷ rest) e =
@@ -38,7 +39,7 @@ calls_are p q place (call c ∷ rest) e =
 calls_are p q place (malformed ∷ rest) e = cc
 
 -- none of them is malformed
-all_calls : (p q : Page) (place : ℕ) (records : List Recorded) → write_all p place records ≡ complete q → records ≡ map call (calls_of records)
+all_calls : (p q : Page) (place : ℕ) (records : List Recorded) → write_all p place records ≡ Ok q → records ≡ map call (calls_of records)
 unfolding write_all calls_of
 all_calls p q place [] e = refl
 all_calls p q place (call c ∷ rest) e =

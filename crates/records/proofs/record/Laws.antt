@@ -1,12 +1,11 @@
 -- The records of bytes, one by one. Assumes nothing.
 use mathlib.Core.Path.{◌≡◌, refl, sym, ap, ◌∙◌}
 use mathlib.Core.List.{List, [], ◌∷◌}
-use Prim.Native.Nat.{ℕ, zero, suc, ◌-◌, ◌≤◌, ◌<◌}
+use Prim.Native.Nat.{ℕ, zero, suc, ◌≤◌, ◌<◌}
 use native.Mathlib.Omega.{arith}
 use native.Mathlib.Decide.{ℕ_discrete}
 use borrow.Author.Tests.{eq-eqb, ne_eqb, le-leb, lt-leb}
-use lib.ListN.{length, take, drop, length-drop}
-use Rattle.encoding.specs.Bytes.{le, part}
+use lib.ListN.{length, length-drop}
 use Rattle.records.specs.Records.{Recorded, malformed, record_of, tag_of, span_of, bytes_of, first_of, rest_of, behind, records_to, records_in}
 
 -- ---- the first record
@@ -18,9 +17,6 @@ first_short s h = rw (lt-leb (span_of s) (length s) h)
 pub first_complete : (s : List ℕ) → span_of s ≤ length s → first_of s ≡ record_of (tag_of s) (bytes_of s)
 unfolding first_of
 first_complete s h = rw (le-leb (span_of s) (length s) h)
-
-pub bytes_are : (s : List ℕ) → part 3 (span_of s) s ≡ bytes_of s
-bytes_are s = let e : span_of s - 3 ≡ le 2 (drop 1 s) = omega arith in ap (λ (n : ℕ). take n (drop 3 s)) e
 
 -- ---- the first record, and those of the rest
 

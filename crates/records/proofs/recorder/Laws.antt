@@ -8,7 +8,7 @@ use native.Mathlib.Omega.{arith}
 use lib.Dec.{eqb}
 use lib.ListN.{length}
 use Rattle.std.specs.Prelude.{Ok, Err}
-use Rattle.amounts.specs.Decline.{Answer, on_taken}
+use Rattle.amounts.specs.Decline.{value_or, verdict_of, Answer, on_taken}
 use Rattle.encoding.specs.Bytes.{placed}
 use Rattle.encoding.proofs.bytes.Placed.{placed_long, placed_out}
 use Rattle.pages.specs.Page as pages
@@ -18,7 +18,7 @@ use Rattle.pages.specs.declared.tally.Tally.{Tally}
 use Rattle.pages.proofs.page.Laws.{set_up_page, set_up_as, post_as}
 use Rattle.pages.proofs.tally.Laws.{set_up_adds, post_on_taken}
 use Rattle.pages.specs.declared.counter.Counter.{Counter}
-use Rattle.records.specs.Recorder.{Reached, Follows, unit_of, after_of}
+use Rattle.records.specs.Recorder.{Reached, Follows}
 
 -- bytes that are put leave the length
 length-placed : (l : List ℕ) (at : ℕ) (s : List ℕ) → length (placed l at s) ≡ length l
@@ -60,8 +60,8 @@ module _ (room : ℕ) (p : Page) (r : Reached room p.draft.tally p) where
 module _ (room : ℕ) (t : Tally) (p : Page) (r : Reached room t p) where
   -- a page answers as its tally, and has come as far then
   pub record Alike (answer : Answer Page) (v : Answer Unit) (u : Tally) : Type 0 where
-    pub verdict : v ≡ unit_of answer
-    pub after : Reached room u (after_of p answer)
+    pub verdict : v ≡ verdict_of answer
+    pub after : Reached room u (value_or p answer)
 
   alike : (a : Answer Tally) (f : Tally → Page) (v : Answer Unit) (u : Tally) → Counts t a v u → ((x : Tally) → a ≡ Ok x → Reached room x (f x))
       → Alike (on_taken a (λ x. Ok (f x))) v u
@@ -102,5 +102,5 @@ counter_follows answers a b v e h =
     record {
       lent_stays = refl;
       verdict = λ p r. (h p r).verdict;
-      after = λ p r. subst (λ (n : ℕ). Reached n b.tally (after_of p (answers p))) (sym e) (h p r).after;
+      after = λ p r. subst (λ (n : ℕ). Reached n b.tally (value_or p (answers p))) (sym e) (h p r).after;
     }

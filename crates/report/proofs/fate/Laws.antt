@@ -4,9 +4,10 @@ use Rattle.amounts.specs.declared.treatment.Parts.{Parts}
 use Rattle.amounts.proofs.treatment.Laws.{conserved}
 use Rattle.encoding.specs.Each.{sum_to}
 use Rattle.encoding.proofs.Each.{sum_again, sum_mono}
-use Rattle.plant.specs.Setup.{SoundSetup}
+use Rattle.plant.specs.Setup.{no_stage, Rated, SoundSetup}
 use Rattle.plant.specs.declared.setup.Setup.{Setup}
 use Rattle.book.specs.Ledger.{total}
+use Rattle.book.specs.Site.{Book, Sound}
 use Rattle.book.proofs.ledger.Laws.{column, total_is}
 use Rattle.report.specs.Fate.{to_sewer, to_public_water, to_landfill, to_off_site, rates_of, cells_of, fate_from, stage_fate, fate_to, weigh}
 use Rattle.report.specs.Steps.{no_fate, add_fates}
@@ -48,9 +49,9 @@ module _ (sums : List ℕ) (u : Setup) (s : ℕ) where
         let c = cells_of sums k s in
         let r = rates_of u k s in
         let rated = h.rated (k * 8 + s) in
-        weigh_from c _ _ (get_or u.to_sewer k false) (get_or u.to_landfill k false)
-        (conserved c.gas r.gas_removal r.gas_destruction rated.gas_removal rated.gas_destruction)
-        (conserved c.water r.water_removal r.water_destruction rated.water_removal rated.water_destruction)
+        weigh_from c _ _ (get_or u.stages k no_stage).to_sewer (get_or u.stages k no_stage).to_landfill
+        (conserved c.gas r.gas.removal r.gas.destruction rated.gas.0 rated.gas.1)
+        (conserved c.water r.water.removal r.water.destruction rated.water.0 rated.water.1)
         ∙ omega arith
 
     fates_weigh : (n : ℕ) → weigh (fate_to sums u s n) ≡ sum_to n (column sums s)
@@ -62,7 +63,28 @@ module _ (sums : List ℕ) (u : Setup) (s : ℕ) where
     pub fate_total : weigh (fate_to sums u s 8) ≡ total sums s
     fate_total = fates_weigh 8 ∙ sym (total_is sums s)
 
-    -- the fates so far and one stage's more fit 64 bits where the ledger's total does
-    pub fates_fit : (k : ℕ) → k < 8 → total sums s < 2 ^ 64 → weigh (fate_to sums u s k) + weigh (stage_fate sums u s k) < 2 ^ 64
-    fates_fit k hk few =
-        omega (arith, fates_weigh k, stage_weighs k, total_is sums s, sum_again k (column sums s), sum_mono (k + 1) 8 (column sums s) (omega arith))
+-- ---- of a sound book
+
+-- what a sound book holds of a substance
+pub total_fits : (b : Book) (s : ℕ) → Sound b → s < 8 → total b.year.sums s < 2 ^ 64
+total_fits b s h hs = omega (arith, h.year.posts_few, h.year.bounded s hs)
+
+pub rates_fit : (b : Book) (s k : ℕ) → Sound b → Rated (rates_of b.setup k s)
+rates_fit b s k h = h.setup.rated (k * 8 + s)
+
+-- the fates so far and one stage's more
+pub fates_fit : (b : Book) (s k : ℕ) → Sound b → s < 8 → k < 8 → weigh (fate_to b.year.sums b.setup s k) + weigh (stage_fate b.year.sums b.setup s k) < 2 ^ 64
+fates_fit b s k h hs hk =
+    let sums = b.year.sums in
+    omega (
+      arith,
+      total_fits b s h hs,
+      fates_weigh sums b.setup s h.setup k,
+      stage_weighs sums b.setup s h.setup k,
+      total_is sums s,
+      sum_again k (column sums s),
+      sum_mono (k + 1) 8 (column sums s) (omega arith),
+    )
+
+pub stage_fits : (b : Book) (s k : ℕ) → Sound b → s < 8 → k < 8 → weigh (stage_fate b.year.sums b.setup s k) < 2 ^ 64
+stage_fits b s k h hs hk = omega (arith, fates_fit b s k h hs hk)

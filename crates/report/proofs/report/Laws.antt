@@ -3,14 +3,12 @@ use Rattle.std.proofs.Common.{◌≡◌, sym, ◌∙◌, List, ℕ, ◌+◌, ◌
 use Rattle.amounts.specs.Filed.{step_of, filed_of}
 use Rattle.amounts.proofs.filed.Laws.{filed_within}
 use Rattle.encoding.proofs.Each.{sum_again, sum_mono}
-use Rattle.plant.specs.declared.setup.Setup.{Setup}
 use Rattle.book.specs.Ledger.{brings, total}
-use Rattle.book.specs.Site.{Book, stored, stored_to, in_year, Sound, SoundYear}
-use Rattle.book.specs.declared.site.Year.{Year}
+use Rattle.book.specs.Site.{Book, stored, stored_to, in_year, Sound}
 use Rattle.report.specs.Fate.{six_of, weigh, map_headings}
 use Rattle.report.specs.Report.{report_at}
 use Rattle.report.specs.declared.fate.Headings.{Headings}
-use Rattle.report.proofs.fate.Laws.{fate_total}
+use Rattle.report.proofs.fate.Laws.{fate_total, total_fits}
 
 -- ---- what fits 64 bits
 
@@ -21,13 +19,9 @@ stored_le store counted s m h =
     let each : ℕ → ℕ = λ m. brings counted m (get_or store m 0) s in
     omega (arith, sum_again m each, sum_mono (m + 1) 12 each (omega arith))
 
--- what a sound year holds of a substance
-module _ (u : Setup) (y : Year) (h : SoundYear u y) (s : ℕ) (hs : s < 8) where
-  pub total_fits : total y.sums s < 2 ^ 64
-  total_fits = omega (arith, h.posts_few, h.bounded s hs)
-
-  pub stored_fits : stored u y s < 2 ^ 64
-  stored_fits = omega (arith, h.posts_few, h.bounded s hs)
+-- what a sound book has in store of a substance
+pub stored_fits : (b : Book) (s : ℕ) → Sound b → s < 8 → stored b.setup b.year s < 2 ^ 64
+stored_fits b s h hs = omega (arith, h.year.posts_few, h.year.bounded s hs)
 
 -- ---- what a report says, over a sound book
 
@@ -45,7 +39,7 @@ module _ (b : Book) (h : Sound b) (s : ℕ) (hs : s < 8) where
 
   -- so each heading is an amount of 64 bits
   pub headings_fit : six_of (report_at b s).fate.headings < 2 ^ 64
-  headings_fit = omega (arith, shown, total_fits b.setup b.year h.year s hs)
+  headings_fit = omega (arith, shown, total_fits b s h hs)
 
 -- ---- filed figures
 

@@ -1,5 +1,4 @@
-use Rattle.std.proofs.Common.{ap, ◌∙◌}
-use Rattle.book.specs.Blocks.{ended}
+use Rattle.std.proofs.Common.{◌∙◌}
 use Rattle.book.proofs.blocks.Laws.{all_read, next_read, next_refused}
 use Rattle.book.proofs.blocks.take_blocks.Goals as goal
 
@@ -7,7 +6,7 @@ pub returns-in-Err : goal.returns-in-Err
 returns-in-Err c =
     let k = c.loop-part in
     rw c.block_number-place.ensures.value
-    (ap ended (next_refused _ _ k.book k.invariant.so_far _ k.invariant.size _ _ c.in-Some.ensures.steps.1 _ c.in-Err.ensures.verdict))
+    (next_refused _ _ k.book k.invariant.so_far _ k.invariant.size _ _ c.in-Some.ensures.steps.1 _ c.in-Err.ensures.verdict)
 
 pub loop-part-preserved : goal.loop-part-preserved
 loop-part-preserved c =
@@ -19,4 +18,4 @@ loop-part-preserved c =
     }
 
 pub returns : goal.returns
-returns c = ap ended (all_read _ _ c.loop-part.book c.loop-part.invariant.so_far c.in-None.ensures.steps.1.0)
+returns c = all_read _ _ c.loop-part.book c.loop-part.invariant.so_far c.in-None.ensures.steps.1.0

@@ -1,9 +1,15 @@
-use Rattle.std.proofs.Common.{sym, ◌∙◌}
-use Rattle.losses.proofs.coefficient.Rows.{hit, miss}
+use Rattle.std.proofs.Common.{rules, sym}
+use Rattle.std.proofs.lemmas.List.Sorted.{answers_always}
+use Rattle.losses.proofs.coefficient.Rows.{found, missed}
+use Rattle.losses.specs.declared.coefficient.Entry.{Entry}
 use Rattle.losses.proofs.coefficient.row_of.Goals as goal
 
-pub returns-then-e-number : goal.returns-then-e-number
-returns-then-e-number c = sym (hit c.args.number c.loop-e.e-index _ c.loop-e-test.true c.if-e-number.true) ∙ c.loop-e.invariant
+pub returns-in-Ok : goal.returns-in-Ok
+returns-in-Ok c =
+    let searched = c.in-Ok.ensures.position (λ (e : Entry). e.number) (answers_always _ _ _ (λ f a r g called. search rules)) in
+    sym (found c.args.number c.in-Ok.place _ c.in-Ok.ensures.bound searched)
 
-pub loop-e-preserved : goal.loop-e-preserved
-loop-e-preserved c = sym (miss c.args.number c.loop-e.e-index _ c.loop-e-test.true c.if-e-number.false) ∙ c.loop-e.invariant
+pub returns-in-Err : goal.returns-in-Err
+returns-in-Err c =
+    let searched = c.in-Err.ensures.position (λ (e : Entry). e.number) (answers_always _ _ _ (λ f a r g called. search rules)) in
+    sym (missed c.args.number c.in-Err.field-0 searched)

@@ -1,9 +1,7 @@
-use lib.ListN.{length}
+use Rattle.std.specs.Iterator.Adapters.{enumerate_source, enumerate_count}
 use Rattle.records.proofs.batch.Laws.{Upto}
 use Rattle.records.proofs.batch.take_all.Given as goal
 
-abbrev pub invariant-loop-rest : goal.invariant-loop-rest
-invariant-loop-rest g l = Upto g.R.Recorder.lent g.R.Recorder.is_at l.records l.initial.recorder l.recorder l.rest l.place
-
-abbrev pub decreases-loop-rest : goal.decreases-loop-rest
-decreases-loop-rest g l = length l.rest
+abbrev pub invariant-loop-place : goal.invariant-loop-place
+invariant-loop-place g l =
+    Upto g.R.Recorder.lent g.R.Recorder.is_at l.fn.records l.initial.recorder l.recorder (enumerate_source l.place-iterator).rest.now (enumerate_count l.place-iterator)

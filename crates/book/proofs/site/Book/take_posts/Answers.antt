@@ -1,0 +1,28 @@
+use Rattle.std.proofs.Common.{◌<◌, ◌∙◌, ap, arith}
+use Rattle.amounts.specs.Decline.{checked}
+use Rattle.layout.specs.Posts.{own_checks}
+use Rattle.book.specs.Site.{Book}
+use Rattle.book.proofs.posts.Laws.{hands_on, verdict_there, book_there, turn_declined, turn_taken}
+use Rattle.book.proofs.site.Book.take_posts.Goals as goal
+
+pub returns-in_err-take_post-clause-verdict : goal.returns-in_err-take_post-clause-verdict
+returns-in_err-take_post-clause-verdict c =
+    let k = c.loop-i in
+    let own = c.in_ok-check_posts.ensures ∙ ap (λ (b : Book). checked (own_checks b.setup.outline b.year.closed c.args.count c.args.body.now) (tt {0})) c.self.view_is in
+    let more : k.i < c.args.count = omega (arith, c.from-i-end.ensures) in
+    let told = c.in_err-take_post.ensures.verdict ∙ verdict_there c.args.self.now k.self k.invariant.setup _ in
+    hands_on _ _ _ c.from_residual-in_err-take_post.ensures.1 (turn_declined _ _ _ _ _ own k.i k.self.year k.invariant.so_far more _ told)
+
+pub loop-i-preserved : goal.loop-i-preserved
+loop-i-preserved c =
+    let k = c.loop-i in
+    let e = c.in_ok-take_post.ensures in
+    let own = c.in_ok-check_posts.ensures ∙ ap (λ (b : Book). checked (own_checks b.setup.outline b.year.closed c.args.count c.args.body.now) (tt {0})) c.self.view_is in
+    let more : k.i < c.args.count = omega (arith, c.from-i-end.ensures) in
+    let told = e.verdict ∙ verdict_there c.args.self.now k.self k.invariant.setup _ in
+    let after = book_there c.args.self.now k.self k.invariant.setup _ c.take_post.new.self e.book in
+    record {
+      so_far = turn_taken _ _ _ _ _ own k.i k.self.year k.invariant.so_far more _ _ told (ap (λ (b : Book). b.year) after);
+      setup = ap (λ (b : Book). b.setup) after;
+      blocks = ap (λ (b : Book). b.blocks) after ∙ k.invariant.blocks;
+    }
