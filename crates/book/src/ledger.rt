@@ -1,4 +1,4 @@
-// The ledger's sums, lent to the functions that move amounts in them.
+// The ledger's sums, lent to the functions that move amounts in them: a method of the year would say the whole year for each.
 ghost use Rattle.std.specs.Prelude.{◌≡◌, ℕ, ◌^◌, ◌+◌, ◌-◌, ◌*◌, ◌≤◌, ◌<◌, length, get_or, set};
 ghost use Rattle.kinds.specs.Account.{place};
 ghost use Rattle.kinds.specs.declared.account.Account.TheVariants.{Held};

@@ -34,6 +34,7 @@ impl Book {
         self.setup
             .outline
             .check_posts(self.year.closed, count, body)?;
+        // By place, as the definition has the posts.
         for i in 0..usize::from(count) {
             let at = i * POST_SIZE;
             self.take_post(&body[at..at + POST_SIZE])?;

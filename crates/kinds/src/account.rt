@@ -16,7 +16,7 @@ pub enum Account {
     Vapour,
 }
 
-// Where the close moves a holding, by whether its side is water, as a pair says it.
+// Where the close moves a holding, by whether its side is water, as a pair says it: an enum of two sides would be read here alone.
 #[tactic(auto, unfolding(crate::specs::Account::closes_to))]
 pub fn closes_to(water: bool) -> Account
     ensures { result ≡ closes_to water }

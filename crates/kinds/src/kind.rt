@@ -133,7 +133,7 @@ pub fn kind_of(o: Outline, number: u8) -> Result<Kind, Decline>
     use Measure::{Content, Loss, Quantity};
 
     let (limits, measure, does) = match number {
-        // An arm each, as each has its row; one arm for both is slower.
+        // An arm each, as each has its row in the table.
         1 => (of_stock(o), Quantity, Receives),
         2 => (of_stock(o), Quantity, Receives),
         3 => (of_issue(o), Quantity, Issues),

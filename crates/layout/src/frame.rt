@@ -47,7 +47,7 @@ fn place_of(i: usize) -> i16
     (i + 1) as i16
 }
 
-// Declines 1 to 3. No check sum is taken where the length or the tag fails, since the sums are what a block's check costs.
+// Declines 1 to 3, a row of the table each, the two sums too. No check sum is taken where the length or the tag fails, since the sums are what a block's check costs.
 #[tactic(auto, unfolding(amounts::specs::Decline::checked))]
 pub fn check_frame(number: u32, s: &[u8]) -> Result<(), Decline>
     ensures { result ≡ checked (frame_checks number s.now) (tt {0}) }

@@ -89,7 +89,8 @@ pub fn loss_over(
     loss_of(form::read_form(form, bits)?, found)
 }
 
-// The row over which a form's loss is that of the number: a station needs none, so that none is looked for. With the search its loss takes 1.1 times as long.
+// The row over which a form's loss is that of the number: a station needs none, so that none is looked for. With the search its loss takes 1.1 times as long, and a closure that
+// searches would be no plainer.
 #[tactic(auto, using(crate::proofs::loss::Laws::station_alone))]
 fn row_for(form: u8, number: u16) -> Result<CoefficientRow, Decline>
     ensures { (i : Inputs Float) → loss_over form result i ≡ loss_over form (row_of number) i }

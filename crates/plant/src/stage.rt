@@ -95,7 +95,7 @@ fn check_body(substances: u8, body: &[u8]) -> Result<(), Decline>
     )
 }
 
-// Whether a kind 2 block's body is in its turn and within its limits, by the outline and the bytes alone.
+// Whether a kind 2 block's body is in its turn and within its limits, by the outline, which is `layout`'s, and the bytes alone.
 #[tactic(auto, unfolding(amounts::specs::Decline::checked))]
 pub fn check_stage(o: Outline, stage: u8, body: &[u8]) -> Result<(), Decline>
     ensures { result ≡ checked (stage_checks o stage body.now) (tt {0}) }

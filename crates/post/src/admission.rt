@@ -16,7 +16,8 @@ impl Move {
     }
 }
 
-// The move of a post of any bytes that passes 4 to 10.
+// The move of a post of any bytes that passes 4 to 10. It takes what it reads of a set-up and a year, which stand above this crate. The turn is asked as of a block
+// of posts, since each table has its own rows.
 #[tactic(auto, unfolding(amounts::specs::Decline::checked, crate::specs::Admission::admitted))]
 pub fn admit(
     o: Outline,

@@ -67,6 +67,7 @@ fn floats_of(p: Post) -> Inputs<u64>
     }
 }
 
+// Over a `Post`, which is `kinds`'s.
 fn has_no_floats(p: Post) -> bool
     ensures { result ≡ floats_unused p }
 {
@@ -156,7 +157,7 @@ fn read_post(o: Outline, s: &[u8]) -> Result<Laid, Decline>
     })
 }
 
-// Whether the bytes of a post are well formed, by an outline: declined by 6 and 7, which need no book.
+// Whether the bytes of a post are well formed, by an outline, which is `layout`'s: declined by 6 and 7, which need no book.
 #[tactic(auto, unfolding(amounts::specs::Decline::checked, crate::specs::Moves::well_formed))]
 pub fn check_post(o: Outline, s: &[u8]) -> Result<(), Decline>
     ensures { result ≡ verdict_of (well_formed o s.now) }

@@ -1,4 +1,4 @@
-// A journal written from a list of records in memory.
+// A journal written from a list of records in memory. The C interface has each place loose.
 ghost use Rattle.std.specs.Prelude.{◌≡◌};
 ghost use Rattle.records.specs.Batch.{written_in, left_in};
 ghost use Rattle.prtr.specs.Write.{status_of, length_or, place_or};

@@ -12,7 +12,7 @@ use encoding::bytes;
 pub fn take<R: Recorder>(recorder: &mut R, tag: u8, s: &[u8]) -> Result<(), Refusal>
     ensures { Follows R.lent R.is_at (λ p. record_on p (record_of tag s.now)) recorder.old recorder.new result }
 {
-    // A tag is read nowhere else, so each letter stands here alone, and not in an enum.
+    // A writer's tag is read nowhere else, so that each letter stands here alone, and not in an enum.
     match tag {
         // A set-up block.
         b'S' => recorder.set_up(

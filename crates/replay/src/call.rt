@@ -19,7 +19,7 @@ pub(crate) enum Call<'a> {
 }
 
 impl<'a> Call<'a> {
-    /// None where a record has another tag, or not the bytes of its tag.
+    /// None where a record has another tag, or not the bytes of its tag. A tag is read here alone, so that each letter stands here, and not in an enum.
     pub(crate) fn of(record: Record<'a>) -> Option<Call<'a>> {
         let Record { tag, body } = record;
         match (tag, body) {

@@ -1,4 +1,4 @@
-// The lines. A field of a report has a space before it.
+// The lines. A field of a report has a space before it. `worked_book` has lines of its own: a program isn't linked by another, and the libraries print none.
 use amounts::decline::Decline;
 use report::report::Report;
 use std::io;

@@ -151,7 +151,7 @@ fn parts_of(total: u64, rate: Rate) -> Parts
     split_total(total, rate).unwrap()
 }
 
-// An amount goes to the first of two destinations, or to the second.
+// An amount goes to the first of two destinations, or to the second, by a flag, as the set-up keeps it.
 fn divided(to_first: bool, n: u64) -> (u64, u64)
     ensures first { result.0 ≡ to_sewer to_first n }
     ensures second { result.1 ≡ to_public_water to_first n }
@@ -209,6 +209,7 @@ pub(crate) fn fate_to(b: &Book, s: usize) -> Fate
     ensures { result ≡ fate_to b.now.year.sums b.now.setup s 8 }
 {
     let mut fate = Fate::default();
+    // By place, as the definition adds.
     for stage in 0..8usize {
         fate = fate.plus(stage_fate(b, s, stage));
     }

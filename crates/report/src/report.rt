@@ -29,6 +29,7 @@ fn stored_of(store: &[u64; 12], counted: &[u32; 96], s: usize) -> u64
     ensures { result ≡ stored_to store.now counted.now s 12 }
 {
     let mut sum = 0;
+    // By place, as the definition adds: two lists are reached by it.
     for m in 0..12usize {
         sum += store[m] * u64::from(counted[m * 8 + s]);
     }

@@ -15,5 +15,6 @@ pub fn difference_of(b: &Book, material: usize, grams: u64) -> Result<i64, Decli
 {
     let materials = usize::from(b.setup().outline.materials);
     check(grams <= MOST && material < materials, Decline::StockCount)?;
+    // Both are below 2^43, so that neither changes its value.
     Ok(grams as i64 - b.year().store[material] as i64)
 }

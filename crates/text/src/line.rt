@@ -1,4 +1,4 @@
-// The line of a substance.
+// The line of a substance. Each call asks for its own room, so that no struct could say it once.
 ghost use Rattle.std.specs.Prelude.{◌≡◌, ◌+◌, ◌++◌, ◌≤◌, length};
 ghost use Rattle.text.specs.Line.{filing_text, line_text};
 ghost use Rattle.text.specs.Writing.{most_bytes};

@@ -21,13 +21,14 @@ pub fn return_of(b: &Book) -> Text
         &mut text,
         b"substance handled due air water soil land sewer offsite\n",
     );
+    // By place, as the definition has its lines.
     for i in 0..usize::from(b.setup().outline.substances) {
         push_line(&mut text, &report_of(b, i).unwrap());
     }
     text
 }
 
-// The line of a block that was refused, by its place from 0 and the decline's number.
+// The line of a block that was refused, by its place from 0 and the decline's number: a `Decline` would ask more of callers.
 #[tactic(auto, using(std::proofs::Common::append_assoc), unfolding(crate::specs::Line::refused_text))]
 pub fn refusal_of(place: u32, number: u8) -> Text
     ensures text { result.items ≡ refused_text place number }
