@@ -118,8 +118,12 @@ module _ (store counted : List ℕ) (m s : ℕ) (hm : m < 12) (long : length sto
       let e : get_or store m 0 - g + g ≡ get_or store m 0 = omega arith in
       omega (arith, stored_set (get_or store m 0 - g), brings_add counted m (get_or store m 0 - g) g s, ap (λ (x : ℕ). brings counted m x s) e)
 
--- a list with one place changed stays within a bound
-bounded_set : (l : List ℕ) (i v most : ℕ) → i < length l → ((j : ℕ) → j < length l → get_or l j 0 ≤ most) → v ≤ most → (j : ℕ) → j < length l → get_or (set l i v) j 0 ≤ most
+-- each number of a list is within a bound
+abbrev Within : ℕ → List ℕ → Type 0
+Within most l = (j : ℕ) → j < length l → get_or l j 0 ≤ most
+
+-- and with one place changed still
+bounded_set : (l : List ℕ) (i v most : ℕ) → i < length l → Within most l → v ≤ most → (j : ℕ) → j < length l → get_or (set l i v) j 0 ≤ most
 bounded_set l i v most hi h hv j hj = grind (arith, common_steps, h j hj)
 
 -- ---- what comes to a sum

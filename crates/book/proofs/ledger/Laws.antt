@@ -158,11 +158,15 @@ module _ (place amount : ℕ → ℕ) (l : List ℕ) where
   pub length-raised : (n : ℕ) → length (raised place amount l n) ≡ length l
   length-raised n = length-put place (λ k. get_or l (place k) 0 + amount k) l n
 
+  -- each number has its own place
+  abbrev pub Own : Type 0
+  Own = (i k : ℕ) → place i ≡ place k → i ≡ k
+
   -- a place that is not among those raised yet stands
-  pub raised_later : (n j : ℕ) → ((i k : ℕ) → place i ≡ place k → i ≡ k) → n ≤ j → get_or (raised place amount l n) (place j) 0 ≡ get_or l (place j) 0
+  pub raised_later : (n j : ℕ) → Own → n ≤ j → get_or (raised place amount l n) (place j) 0 ≡ get_or l (place j) 0
   raised_later n j own h = put_other place (λ k. get_or l (place k) 0 + amount k) l n (place j) 0 (λ i g e. let d : j ≡ i = own j i e in omega arith)
 
-  pub raised_at : (n j : ℕ) → ((i k : ℕ) → place i ≡ place k → i ≡ k) → j < n → place j < length l → get_or (raised place amount l n) (place j) 0 ≡ get_or l (place j) 0 + amount j
+  pub raised_at : (n j : ℕ) → Own → j < n → place j < length l → get_or (raised place amount l n) (place j) 0 ≡ get_or l (place j) 0 + amount j
   raised_at n j own h g = put_at place (λ k. get_or l (place k) 0 + amount k) l n j 0 own h g
 
 -- one place more

@@ -58,7 +58,8 @@ module _ (lent : List ℕ) (posts blocks waiting : List (List ℕ)) (p : Page) (
       let each = each_long o waiting told.formed in
       let body : body_of block ≡ posts_body waiting = ap body_of e ∙ drafted_body waiting (omega (arith, joined_long 48 waiting each)) in
       let made : y ≡ x = rw (is, number, body) in
-      let next = filled_next lent blocks p.bytes p.filled filled x (made_long 3 (length waiting) n (posts_body waiting) (body_long (length waiting) (joined waiting) (joined_long 48 waiting each) few)) b.room in
+      let whole = body_long (length waiting) (joined waiting) (joined_long 48 waiting each) few in
+      let next = filled_next lent blocks p.bytes p.filled filled x (made_long 3 (length waiting) n (posts_body waiting) whole) b.room in
       record {
         filled = rw made next;
         number = omega (arith, number, length-append blocks (x ∷ []));
