@@ -14,7 +14,7 @@
  *
  * What a host owes: each pointer is valid, aligned and not null for the whole
  * call, also where its length is 0, and what two pointers of one call name
- * doesn't overlap.
+ * doesn't overlap, but where both are const.
  */
 #ifndef PRTR_H
 #define PRTR_H
@@ -28,11 +28,11 @@ extern "C" {
 
 /*
  * Why a call is declined, in checking order. The status of a calculation
- * (prtr_counted, prtr_split, prtr_due, prtr_loss) is 0 or one of 6 to 9; that
- * of prtr_write is 0, 4, 6, 7, 13 or PRTR_MALFORMED; 1 to 11 stand in the
- * "refused" line of prtr_filing; 12 and 14 are of a book's own calls, a report
- * and a stock count, and come from no function here. prtr_case, prtr_step and
- * prtr_figure decline nothing.
+ * (prtr_counted, prtr_split, prtr_due, prtr_loss) is 0 or one of 6 to 9, that
+ * of prtr_pressure 0 or 18, that of prtr_write 0, 4, 6, 7, 13 or
+ * PRTR_MALFORMED; 1 to 11 stand in the "refused" line of prtr_filing; 12 and
+ * 14 are of a book's own calls, a report and a stock count, and come from no
+ * function here. prtr_case, prtr_step and prtr_figure decline nothing.
  */
 #define PRTR_NOT_A_BLOCK 1   /* a block isn't 512 bytes or lacks "PRTR" */
 #define PRTR_CHECK_SUM 2     /* a check sum differs */
@@ -48,6 +48,7 @@ extern "C" {
 #define PRTR_NO_SUBSTANCE 12 /* a report names a substance that the book hasn't */
 #define PRTR_NO_ROOM 13      /* a block that begins finds fewer than 512 bytes left, or 65,536 blocks written */
 #define PRTR_STOCK_COUNT 14  /* a stock count exceeds 8 x 10^12 g, or its material isn't in the book */
+#define PRTR_MIXTURE 18      /* no part, over eight, the named one not among them, or a value outside its range */
 
 /* No decline: a record of prtr_write is cut short or has another tag than S, P and E. */
 #define PRTR_MALFORMED 255
@@ -123,6 +124,28 @@ uint8_t prtr_due(uint8_t class_, uint64_t handled, uint8_t *due);
  */
 uint8_t prtr_loss(uint8_t form, uint16_t number, uint64_t w, uint64_t u,
                   uint64_t p, uint64_t q, uint64_t *micrograms);
+
+/*
+ * The partial pressure in Pa of one part of a mixture:
+ *
+ *   (pressure x (its content / its M)) / sum
+ *
+ * where sum is content / M of each part, added from the first to the last, and
+ * each operation is rounded once. contents are the n contents in weight
+ * percent, 0.0001 to 100; weights are the m molecular weights M in g/mol, 1 to
+ * 1,000, in the same order; named is the part's place from 0, and pressure the
+ * vapour pressure of that part in Pa, 0 to 10^9. All are doubles by their
+ * bits, *partial too.
+ *
+ * Answers 0 and sets *partial, which is meant for u of form 2 of prtr_loss. It
+ * is finite, not negative and at most 2^30; -0.0 for a pressure of -0.0. Of a
+ * part alone at 10^9 Pa it may lie one unit in the last place above 10^9, and
+ * prtr_loss then declines it by PRTR_RANGE. Declines no part, more than eight,
+ * n and m that differ, a place not below n and a value outside its range by
+ * PRTR_MIXTURE, and *partial is as before.
+ */
+uint8_t prtr_pressure(const uint64_t *contents, size_t n, const uint64_t *weights,
+                      size_t m, size_t named, uint64_t pressure, uint64_t *partial);
 
 /*
  * The return of a journal, a row of blocks of 512 bytes: the text, in ASCII,

@@ -1,7 +1,7 @@
 -- Why a call is declined (document 01, "Why a call is declined, in checking order"), and the table of checks that finds it.
 use Rattle.std.specs.Prelude.{ℕ, Bool, true, false, List, [], ◌∷◌, Result, Ok, Err, is_ok}
 use Rattle.amounts.specs.declared.decline.Decline.{Decline}
-use Rattle.amounts.specs.declared.decline.Decline.TheVariants.{NotABlock, CheckSum, NotNext, OutOfTurn, Closed, Layout, OutOfRange, NoRow, Excess, Full, Short, NoSubstance, NoRoom, StockCount}
+use Rattle.amounts.specs.declared.decline.Decline.TheVariants.{NotABlock, CheckSum, NotNext, OutOfTurn, Closed, Layout, OutOfRange, NoRow, Excess, Full, Short, NoSubstance, NoRoom, StockCount, Mixture}
 
 -- what a call answers: the value asked for, or its decline
 abbrev pub Answer : Type 0 → Type 0
@@ -37,6 +37,8 @@ number NoSubstance = 12
 number NoRoom = 13
 -- the counted grams exceed 8×10^12 or the material isn't in the book
 number StockCount = 14
+-- no part, over eight parts, the named part isn't among them or a value is outside its range
+number Mixture = 18
 
 -- a test, and the decline where it fails
 pub data Check : Type 0 where

@@ -4,7 +4,7 @@ ghost use Rattle.amounts.specs.Decline.{number};
 
 use std::fmt;
 
-// By document 01's numbers.
+// By the papers' numbers, which leave some out.
 #[derive(Clone, Copy, Debug, PartialEq, Eq)]
 pub enum Decline {
     // The block isn't 512 bytes or lacks "PRTR".
@@ -48,6 +48,9 @@ pub enum Decline {
 
     // The counted grams exceed 8×10^12 or the material isn't in the book.
     StockCount = 14,
+
+    // A mixture has no part or over eight, the named part isn't among them, a value is outside its range, or its lists have different lengths.
+    Mixture = 18,
 }
 
 impl Decline {

@@ -8,14 +8,13 @@ use lib.ListN.{length, take, drop, replicate, length-drop}
 use lib.Seq.{drop_at, take-append-le, drop-append-le, take_all}
 use Rattle.std.specs.Prelude.{Ok}
 use Rattle.amounts.specs.Decline.{checked}
-use Rattle.amounts.proofs.decline.Laws.{was_taken}
 use Rattle.encoding.specs.Bytes.{padded}
 use Rattle.layout.specs.Frame.{frame_checks}
 use Rattle.layout.specs.Outline.{may_post}
 use Rattle.layout.specs.Posts.{post_in, own_checks}
 use Rattle.layout.specs.declared.holds.Holds.TheVariants.{Posts}
 use Rattle.plant.specs.declared.setup.Setup.{Setup}
-use Rattle.layout.proofs.Checked.{pass_taken}
+use Rattle.amounts.proofs.decline.Laws.{was_taken, pass_taken}
 use Rattle.layout.proofs.frame.Laws.{is_held}
 use Rattle.post.proofs.moves.Laws.{move_laid}
 use Rattle.book.specs.Block.{block_on}

@@ -11,7 +11,6 @@ use lib.ListN.{length, length-append}
 use Rattle.std.specs.List.{AllByRecursion}
 use Rattle.std.specs.Prelude.{Ok}
 use Rattle.amounts.specs.Decline.{Answer, checked, is_taken}
-use Rattle.amounts.proofs.decline.Laws.{was_taken}
 use Rattle.layout.specs.Frame.{block_kind, count_of, body_of, frame_checks, block_of}
 use Rattle.layout.specs.Holds.{holds_of}
 use Rattle.layout.specs.Outline.{may_post, fresh_outline}
@@ -22,7 +21,7 @@ use Rattle.layout.specs.declared.holds.Holds.TheVariants.{SetUp, Posts}
 use Rattle.layout.specs.declared.holds.SetupPart.{SetupPart}
 use Rattle.layout.specs.declared.outline.Outline.{Outline}
 use Rattle.plant.specs.declared.setup.Setup.{Setup}
-use Rattle.layout.proofs.Checked.{passed}
+use Rattle.amounts.proofs.decline.Laws.{was_taken, passed}
 use Rattle.layout.proofs.frame.Laws.{framed}
 use Rattle.layout.proofs.frame.Made.{held_made}
 use Rattle.book.specs.Block.{block_on}

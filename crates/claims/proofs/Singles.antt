@@ -10,7 +10,7 @@ use Rattle.layout.specs.Frame.{block_kind, count_of, body_of, frame_checks, held
 use Rattle.layout.specs.Holds.{holds_of}
 use Rattle.layout.specs.Posts.{post_in, own_checks}
 use Rattle.layout.specs.declared.holds.Holds.TheVariants.{Posts}
-use Rattle.layout.proofs.Checked.{guards}
+use Rattle.amounts.proofs.decline.Laws.{guards}
 use Rattle.book.specs.Block.{by_holds, block_on}
 use Rattle.book.specs.Posts.{taken_to, posts_on, single_on}
 use Rattle.book.specs.Site.{Book, book_with}

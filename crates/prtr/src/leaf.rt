@@ -1,4 +1,4 @@
-// The calculations of `amounts` and `losses`. Each that can decline returns 0 or document 01's number, and writes only where it returns 0.
+// The calculations of `amounts`, `losses` and `mixture`. Each that can decline returns 0 or the papers' number, and writes only where it returns 0.
 // The C interface has each value and each place loose, and a decline by number.
 ghost use Rattle.std.specs.Prelude.{◌≡◌};
 ghost use Rattle.forms.specs.Form.{values_of};
@@ -7,7 +7,11 @@ ghost use Rattle.amounts.specs.Filed.{case_of, step_of, filed_of};
 ghost use Rattle.losses.specs.Loss.{vapour_of};
 ghost use Rattle.amounts.specs.Threshold.{due_of};
 ghost use Rattle.amounts.specs.Treatment.{split_of};
+ghost use Rattle.forms.specs.Binary64.{value_of};
+ghost use Rattle.mixture.specs.Pressure.{floats_of, partial_of};
 ghost use Rattle.prtr.specs.Host.{number_of, lent, one_or_zero};
+ghost use Rattle.std.specs.Float.{binary64};
+ghost use Rattle.std.specs.Float.Ieee.{to_bits};
 
 use amounts::content::counted_content;
 use amounts::decline::Decline;
@@ -16,6 +20,7 @@ use amounts::threshold::is_due;
 use amounts::treatment::{Rate, split_total};
 use forms::form::Inputs;
 use losses::loss::vapour_loss;
+use mixture::pressure::partial_pressure;
 
 // What is answered goes to a lent place, and a decline's number to the caller.
 fn lend<T: Copy>(answer: Result<T, Decline>, place: &mut T) -> u8
@@ -123,4 +128,26 @@ pub extern "C" fn prtr_loss(
     ensures micrograms_after { micrograms.new ≡ lent (λ n. n) micrograms.old (vapour_of form number (values_of (record { w = w; u = u; p = p; q = q }))) }
 {
     lend(vapour_loss(form, number, Inputs { w, u, p, q }), micrograms)
+}
+
+// The partial pressure in Pa of the part at a place from 0, by its vapour pressure and the contents and molecular weights of a mixture's parts; floats by their bits.
+#[tactic(auto, using(mixture::proofs::pressure::Bound::is_number))]
+#[unsafe(no_mangle)]
+pub extern "C" fn prtr_pressure(
+    contents: &[u64],
+    weights: &[u64],
+    named: usize,
+    pressure: u64,
+    partial: &mut u64,
+) -> u8
+    ensures value { result ≡ number_of (partial_of (floats_of contents.now) (floats_of weights.now) named (value_of pressure)) }
+    ensures partial_after { partial.new ≡ lent (λ x. to_bits binary64 x) partial.old (partial_of (floats_of contents.now) (floats_of weights.now) named (value_of pressure)) }
+{
+    match partial_pressure(contents, weights, named, pressure) {
+        Ok(x) => {
+            *partial = f64::to_bits(x);
+            0
+        }
+        Err(decline) => decline.number(),
+    }
 }

@@ -4,6 +4,7 @@
 mod contents;
 mod figures;
 mod line;
+mod mixtures;
 mod patterns;
 mod readings;
 mod splits;
@@ -20,6 +21,9 @@ fn main(rt: HostRuntime) {
     vapour::station_ends(out);
     vapour::odd_floats(out);
     vapour::declines(out);
+    mixtures::worked(out);
+    mixtures::ends(out);
+    mixtures::declines(out);
     figures::show_all(out);
     splits::show_all(out);
     thresholds::show_all(out);

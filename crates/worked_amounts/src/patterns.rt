@@ -41,3 +41,12 @@ pub(crate) const SEVEN_TENTHS: u64 = 0x3fe6666666666666;
 pub(crate) const NINE_TENTHS: u64 = 0x3feccccccccccccd;
 
 pub(crate) const ELEVEN_TENTHS: u64 = 0x3ff199999999999a;
+
+// Document 004, example 1, table 1-1-1: 2,000 m³ filled in.
+pub(crate) const VOLUME: u64 = 0x409f400000000000;
+
+// The same: 98,100 Pa in the tank.
+pub(crate) const TANK: u64 = 0x40f7f34000000000;
+
+// The same, table 1-1-3: toluene's vapour pressure, 3,750 Pa.
+pub(crate) const PRESSURE_3750: u64 = 0x40ad4c0000000000;

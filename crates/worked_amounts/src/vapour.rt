@@ -3,8 +3,8 @@ use crate::line;
 use crate::line::Answer;
 use crate::patterns::{
     ABOVE_BILLION, BELOW_ONE, BELOW_ZERO, BILLION, EIGHTY_FIVE, ELEVEN_TENTHS, FIVE, HUNDRED,
-    INFINITY, LEAST, MINUS_INFINITY, MINUS_ZERO, NAN, NAN_1, NINE, NINE_TENTHS, ONE, SEVEN_TENTHS,
-    THREE, ZERO,
+    INFINITY, LEAST, MINUS_INFINITY, MINUS_ZERO, NAN, NAN_1, NINE, NINE_TENTHS, ONE, PRESSURE_3750,
+    SEVEN_TENTHS, TANK, THREE, VOLUME, ZERO,
 };
 use forms::form::Inputs;
 use losses::loss::vapour_loss;
@@ -19,14 +19,8 @@ const CONTENT: u64 = 0x3fe3d70a3d70a3d7;
 // The same: 36,000 kL drawn.
 const DRAWN: u64 = 0x40e1940000000000;
 
-// Document 004, example 1, table 1-1-1: 2,000 m³ filled in.
-const VOLUME: u64 = 0x409f400000000000;
-
 // The same, step 3-1: 1,550 Pa of toluene.
 const PARTIAL: u64 = 0x4098380000000000;
-
-// The same, table 1-1-1: 98,100 Pa in the tank.
-const TANK: u64 = 0x40f7f34000000000;
 
 // Document 004, example 2, table 1-1-2: 1,500 kL received.
 const RECEIVED: u64 = 0x4097700000000000;
@@ -41,8 +35,6 @@ const DISPENSED: u64 = 0x4096300000000000;
 const FUELING: u64 = 0x3f6bbc1e28dff31a;
 
 const VOLUME_41000: u64 = 0x40e4050000000000;
-
-const PARTIAL_3750: u64 = 0x40ad4c0000000000;
 
 const TANK_1100: u64 = 0x4091300000000000;
 
@@ -100,7 +92,7 @@ pub(crate) fn operation_orders(out: Stdout) {
         out,
         2,
         300,
-        [VOLUME_41000, PARTIAL_3750, TANK_1100, NINE_TENTHS],
+        [VOLUME_41000, PRESSURE_3750, TANK_1100, NINE_TENTHS],
     );
     // 1,500 kL and 1,420 kL, each at 0.7 kg: here a product and the sum rounded as one would show.
     loss(out, 3, 7, [RECEIVED, SEVEN_TENTHS, DISPENSED, SEVEN_TENTHS]);

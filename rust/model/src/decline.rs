@@ -30,3 +30,6 @@ pub(crate) const NO_SUBSTANCE: u8 = 12;
 pub(crate) const NO_ROOM: u8 = 13;
 /// Document 02 (d): "the counted grams exceed 8×10^12 or the material isn't in the book".
 pub(crate) const STOCK_COUNT: u8 = 14;
+/// Document 02 (h): "no part, over eight parts, the named part isn't among them or a value is
+/// outside its range".
+pub(crate) const MIXTURE: u8 = 18;

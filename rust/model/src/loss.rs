@@ -82,14 +82,19 @@ pub(crate) fn is_form(form: u8) -> bool {
     (1..=3).contains(&form)
 }
 
-/// Whether the floats are in the ranges of a form that is one of the three. No comparison holds of
-/// a NaN and no range reaches an infinity, so both fall outside.
+/// Whether the floats are in the ranges of a form that is one of the three.
 pub(crate) fn in_range(form: u8, floats: &[f64; 4]) -> bool {
     let ranges = &RANGES[usize::from(form) - 1];
     ranges
         .iter()
         .zip(floats)
-        .all(|((least, most), x)| least <= x && x <= most)
+        .all(|(range, x)| within(*x, *range))
+}
+
+/// Whether a float is in a range. No comparison holds of a NaN and no range reaches an infinity, so
+/// both fall outside.
+pub(crate) fn within(x: f64, (least, most): (f64, f64)) -> bool {
+    least <= x && x <= most
 }
 
 fn row(number: u16) -> Result<Row, u8> {

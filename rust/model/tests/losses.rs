@@ -1,5 +1,8 @@
 //! Vapour losses: the paper's tanks, the tables, ranges, odd floats and the order of declines.
 
+mod common;
+use common::ODD;
+
 /// The losses by plain floats.
 fn loss(form: u8, number: u16, [w, u, p, q]: [f64; 4]) -> Result<u64, u8> {
     model::loss(
@@ -118,17 +121,9 @@ fn the_ends_of_a_range_belong_to_it() {
 
 #[test]
 fn a_nan_or_an_infinity_is_a_7_anywhere() {
-    let odd = [
-        0x7ff0_0000_0000_0000, // an infinity
-        0xfff0_0000_0000_0000, // the other
-        0x7ff0_0000_0000_0001, // a signalling NaN
-        0x7ff8_0000_0000_0000, // a quiet one
-        0xffff_ffff_ffff_ffff, // one with its whole payload
-        0x8000_0000_0000_0001, // the least negative number
-    ];
     for form in 1..=3 {
         for place in 0..4 {
-            for bits in odd {
+            for bits in ODD {
                 let mut floats = if form == 1 {
                     [1.0, 1.0, 1.0, 0.0]
                 } else {

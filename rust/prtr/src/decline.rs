@@ -46,20 +46,22 @@ pub enum Decline {
     NoRoom = 13,
     /// The grams of a stock count exceed 8×10^12, or the book hasn't the material; no function of this crate answers it.
     StockCount = 14,
+    /// A mixture has no part or more than eight, the named part isn't among them, or a value is outside its range.
+    Mixture = 18,
 }
 
-// `from_number` finds a decline by its place.
+// The numbers rise, so that no decline is listed twice.
 const _: () = {
-    let mut place = 0;
+    let mut place = 1;
     while place < Decline::ALL.len() {
-        assert!(Decline::ALL[place].number() as usize == place + 1);
+        assert!(Decline::ALL[place - 1].number() < Decline::ALL[place].number());
         place += 1;
     }
 };
 
 impl Decline {
     /// Every decline, in checking order.
-    pub const ALL: [Decline; 14] = [
+    pub const ALL: [Decline; 15] = [
         Decline::NotABlock,
         Decline::CheckSum,
         Decline::NotNext,
@@ -74,17 +76,18 @@ impl Decline {
         Decline::NoSubstance,
         Decline::NoRoom,
         Decline::StockCount,
+        Decline::Mixture,
     ];
 
-    /// The papers' number, 1 to 14.
+    /// The papers' number, 1 to 14 or 18.
     pub const fn number(self) -> u8 {
         self as u8
     }
 
     /// The decline with this number, or `None` where the papers have none.
     pub fn from_number(number: u8) -> Option<Decline> {
-        let place = number.checked_sub(1)?;
-        Decline::ALL.get(usize::from(place)).copied()
+        let mut declines = Decline::ALL.into_iter();
+        declines.find(|decline| decline.number() == number)
     }
 
     /// The papers' words, cut short.
@@ -105,6 +108,9 @@ impl Decline {
             Decline::NoRoom => "there is no room for a block",
             Decline::StockCount => {
                 "more than 8 x 10^12 g are counted, or the book hasn't this material"
+            }
+            Decline::Mixture => {
+                "the mixture has no part, over eight or not the named one, or a value is outside its range"
             }
         }
     }

@@ -5,7 +5,7 @@
 //!
 //! The functions here answer for every input: what is outside the limits is an [`Err`] with its [`Decline`], a refused
 //! journal one that also says which block, and a journal that can't be written one that says which record.
-//! [`Decline::NoSubstance`] comes from none of them.
+//! [`Decline::NoSubstance`] and [`Decline::StockCount`] come from none of them.
 //!
 //! ```
 //! use prtr::{Class, Form};
@@ -257,6 +257,50 @@ pub fn loss_bits(form: u8, number: u16, w: u64, u: u64, p: u64, q: u64) -> Resul
     let mut micrograms = 0;
     let status = raw::loss(form, number, [w, u, p, q], &mut micrograms);
     answer(status, micrograms)
+}
+
+/// The partial pressure in Pa of one part of a mixture, from its vapour pressure in Pa, 0 to 10^9.
+///
+/// `contents` are in weight percent, 0.0001 to 100; `weights` are the molecular weights M in g/mol, 1 to 1,000, in the
+/// same order; `named` is the part's place from 0. The answer is (pressure × (its content / its M)) / sum, where sum is
+/// content / M of each part, added from the first to the last, and each operation is rounded once.
+///
+/// Declines by [`Decline::Mixture`] no part or more than eight, lists of different lengths, a place past the last part
+/// and a value outside its range. The answer is finite, not negative and at most 2^30; it is -0.0 for a pressure of -0.0.
+/// Of a part alone at 10^9 Pa it may lie one unit in the last place above 10^9, where [`loss`] declines it.
+///
+/// ```
+/// use prtr::{loss, pressure, Decline, Form};
+///
+/// // Toluene, xylene and benzene; 3,750 Pa is toluene's.
+/// let (contents, weights) = ([40.0, 45.0, 15.0], [92.1, 106.2, 78.1]);
+/// let partial = pressure(&contents, &weights, 0, 3_750.0)?;
+/// assert_eq!(partial.round(), 1_551.0);
+///
+/// // 119.4 kg of the toluene are lost while 2,000 m³ are filled.
+/// let tank = Form::FixedRoof { volume: 2_000.0, partial, tank: 98_100.0, share: 1.0 };
+/// assert_eq!(loss(tank, 300), Ok(119_400_216_026));
+///
+/// assert_eq!(pressure(&contents, &weights, 3, 3_750.0), Err(Decline::Mixture));
+/// assert_eq!(pressure(&contents, &weights[1..], 0, 3_750.0), Err(Decline::Mixture));
+/// # Ok::<(), Decline>(())
+/// ```
+#[inline]
+pub fn pressure(
+    contents: &[f64],
+    weights: &[f64],
+    named: usize,
+    pressure: f64,
+) -> Result<f64, Decline> {
+    let mut partial = 0;
+    let status = raw::pressure(
+        raw::bits(contents),
+        raw::bits(weights),
+        named,
+        pressure.to_bits(),
+        &mut partial,
+    );
+    answer(status, f64::from_bits(partial))
 }
 
 /// The text of the return that a journal gives, or which block was refused and why.

@@ -5,6 +5,8 @@
 
 #![allow(unsafe_code)]
 
+use std::slice;
+
 mod c {
     extern "C" {
         pub fn prtr_counted(class: u8, ppm: u32, counted: *mut u32) -> u8;
@@ -28,6 +30,15 @@ mod c {
             p: u64,
             q: u64,
             micrograms: *mut u64,
+        ) -> u8;
+        pub fn prtr_pressure(
+            contents: *const u64,
+            n: usize,
+            weights: *const u64,
+            m: usize,
+            named: usize,
+            pressure: u64,
+            partial: *mut u64,
         ) -> u8;
         pub fn prtr_filing(journal: *const u8, length: usize, out: *mut u8, room: usize) -> usize;
         pub fn prtr_write(
@@ -92,6 +103,41 @@ pub fn due(class: u8, handled: u64, due: &mut u8) -> u8 {
 pub fn loss(form: u8, number: u16, floats: [u64; 4], micrograms: &mut u64) -> u8 {
     let [w, u, p, q] = floats;
     unsafe { c::prtr_loss(form, number, w, u, p, q, micrograms) }
+}
+
+/// 0 and the partial pressure of the part at the place `named`, or a decline and the cell as before; floats by their bits.
+#[inline]
+pub fn pressure(
+    contents: &[u64],
+    weights: &[u64],
+    named: usize,
+    pressure: u64,
+    partial: &mut u64,
+) -> u8 {
+    unsafe {
+        c::prtr_pressure(
+            contents.as_ptr(),
+            contents.len(),
+            weights.as_ptr(),
+            weights.len(),
+            named,
+            pressure,
+            partial,
+        )
+    }
+}
+
+// `bits` reads floats in place.
+const _: () = {
+    assert!(size_of::<f64>() == size_of::<u64>());
+    assert!(align_of::<f64>() == align_of::<u64>());
+};
+
+/// The bits of floats, where they are.
+#[inline]
+pub(crate) fn bits(floats: &[f64]) -> &[u64] {
+    // Both types have one size and alignment, and any bits are a `u64`.
+    unsafe { slice::from_raw_parts(floats.as_ptr().cast(), floats.len()) }
 }
 
 /// How many bytes of text are now at the start of `out`, or 0 and `out` as before where it is

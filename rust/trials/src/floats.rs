@@ -32,6 +32,11 @@ pub const SPECIALS: [u64; 16] = [
     0xbff0_0000_0000_0000,
 ];
 
+/// Floats by their bits.
+pub fn of_bits(list: &[u64]) -> Vec<f64> {
+    list.iter().map(|&bits| f64::from_bits(bits)).collect()
+}
+
 /// The ends of a range, the floats next to them on either side, and the specials.
 pub fn edges(range: (f64, f64)) -> Vec<u64> {
     let ends = [range.0.to_bits(), range.1.to_bits()];

@@ -3,7 +3,9 @@
 use std::fs;
 
 use blocks::{tens, Post};
+use trials::floats::of_bits;
 use trials::ledger::exactly;
+use trials::mixtures::Mixture;
 use trials::site::WHOLE;
 use trials::trial::{say, text_of, Trial};
 use trials::year::Year;
@@ -317,6 +319,60 @@ fn a_doctored_split_differs() {
         (library.destroyed, library.residue) != (model.destroyed, model.residue)
     });
     assert!(differing.count() > 800);
+}
+
+/// A partial pressure with a slip, of contents, contents over M, the named part's place and its vapour pressure.
+type Slipped = fn(&[f64], &[f64], usize, f64) -> f64;
+
+fn added_from_the_last(_: &[f64], parts: &[f64], named: usize, pressure: f64) -> f64 {
+    (pressure * parts[named]) / parts.iter().rev().sum::<f64>()
+}
+
+fn named_part_left_out(_: &[f64], parts: &[f64], named: usize, pressure: f64) -> f64 {
+    let others = (0..parts.len()).filter(|&place| place != named);
+    (pressure * parts[named]) / others.map(|place| parts[place]).sum::<f64>()
+}
+
+fn pressure_multiplied_last(_: &[f64], parts: &[f64], named: usize, pressure: f64) -> f64 {
+    pressure * (parts[named] / parts.iter().sum::<f64>())
+}
+
+fn by_weight(contents: &[f64], _: &[f64], named: usize, pressure: f64) -> f64 {
+    (pressure * contents[named]) / contents.iter().sum::<f64>()
+}
+
+fn of_the_first(_: &[f64], parts: &[f64], _: usize, pressure: f64) -> f64 {
+    (pressure * parts[0]) / parts.iter().sum::<f64>()
+}
+
+/// Whether a slip gives another last bit than the library.
+fn shows_in_a_mixture(slip: Slipped, mixture: &Mixture) -> bool {
+    let [contents, weights] = [&mixture.contents, &mixture.weights].map(|list| of_bits(list));
+    let pressure = f64::from_bits(mixture.pressure);
+    let library = prtr::pressure(&contents, &weights, mixture.named, pressure)
+        .expect("a mixture in its ranges is taken");
+    let parts: Vec<f64> = contents.iter().zip(&weights).map(|(c, m)| c / m).collect();
+    slip(&contents, &parts, mixture.named, pressure).to_bits() != library.to_bits()
+}
+
+#[test]
+fn slips_show_in_the_generated_mixtures() {
+    let mut trial = Trial::new("slips of a mixture");
+    let slips: [(&str, Slipped, usize); 5] = [
+        ("added from the last", added_from_the_last, 100),
+        ("named part left out", named_part_left_out, 700),
+        ("pressure multiplied last", pressure_multiplied_last, 150),
+        ("by weight", by_weight, 600),
+        ("of the first part", of_the_first, 400),
+    ];
+    for (name, slip, least) in slips {
+        let mixtures = (0..1_000).map(|case| Mixture::within(&mut trial.rng(1, case)));
+        let count = mixtures
+            .filter(|mixture| shows_in_a_mixture(slip, mixture))
+            .count();
+        say(&format!("slips: {name} shows in {count} of 1000 mixtures"));
+        assert!(count >= least, "{name} shows in only {count} mixtures");
+    }
 }
 
 #[test]

@@ -1,13 +1,11 @@
-//! Each calculation over edges and random numbers, and the cells that a decline must leave.
+//! The calculations but that of a partial pressure, over edges and random numbers, and the cells that a decline must leave.
 
 use prtr::{raw, Class, Decline, Form};
+use trials::cell::{left, BEFORE};
 use trials::floats::{any, edges, within, RANGES};
 use trials::rng::Rng;
 use trials::site::{ROWS, WHOLE};
 use trials::trial::{cases, say, Trial};
-
-/// What a cell holds before a call.
-const BEFORE: u64 = 0x5a5a_5a5a_5a5a_5a5a;
 
 /// Powers of ten and two, halves of steps, the thresholds, and the numbers beside each.
 fn edge_amounts() -> Vec<u64> {
@@ -56,14 +54,6 @@ fn edge_rates() -> [u32; 12] {
         1 << 31,
         u32::MAX,
     ]
-}
-
-/// What a call left: its status, and the cell's value or what it was before.
-fn left<A>(answer: Result<A, u8>, before: A) -> (u8, A) {
-    match answer {
-        Ok(value) => (0, value),
-        Err(number) => (number, before),
-    }
 }
 
 fn compare_counted(trial: &mut Trial, class: u8, ppm: u32) {

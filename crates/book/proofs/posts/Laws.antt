@@ -14,11 +14,10 @@ use Rattle.std.specs.Result.{IsErrAnd}
 use Rattle.amounts.specs.Decline.{Answer, check, checked, on_taken, value_or, verdict_of}
 use Rattle.amounts.specs.declared.decline.Decline.TheVariants.{Full, Short}
 use Rattle.amounts.specs.declared.decline.Decline.{Decline}
-use Rattle.amounts.proofs.decline.Laws.{was_taken}
 use Rattle.layout.specs.Outline.{may_post}
 use Rattle.layout.specs.Posts.{post_in, own_checks}
 use Rattle.plant.specs.declared.setup.Setup.{Setup}
-use Rattle.layout.proofs.Checked.{passed, pass_taken}
+use Rattle.amounts.proofs.decline.Laws.{was_taken, passed, pass_taken}
 use Rattle.layout.proofs.posts.Laws.{Owned, owned}
 use Rattle.post.specs.Moves.{move_at}
 use Rattle.post.specs.declared.moves.Move.{Move}

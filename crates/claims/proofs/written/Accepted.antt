@@ -9,14 +9,13 @@ use Rattle.std.proofs.lemmas.Bool.Decides.{nat_tests}
 use Rattle.std.specs.Prelude.{Ok, Err}
 use Rattle.amounts.specs.Decline.{Answer, check, checked, is_taken}
 use Rattle.amounts.specs.declared.decline.Decline.TheVariants.{NoRoom}
-use Rattle.amounts.proofs.decline.Laws.{was_taken}
 use Rattle.layout.specs.Holds.{holds_of}
 use Rattle.layout.specs.Outline.{may_post}
 use Rattle.layout.specs.declared.holds.Holds.{Holds}
 use Rattle.layout.specs.declared.holds.Holds.TheVariants.{SetUp, Posts}
 use Rattle.layout.specs.declared.holds.SetupPart.{SetupPart}
 use Rattle.layout.specs.declared.outline.Outline.{Outline}
-use Rattle.layout.proofs.Checked.{AllPass, passed, pass_both}
+use Rattle.amounts.proofs.decline.Laws.{was_taken, AllPass, passed, pass_both}
 use Rattle.kinds.specs.Kind.{Row}
 use Rattle.post.specs.Moves.{laid_out, well_formed}
 use Rattle.pages.specs.Page.{Page, posted, post_on, with_part, set_up_on}

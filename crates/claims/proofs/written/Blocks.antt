@@ -20,8 +20,8 @@ use Rattle.layout.specs.Posts.{own_checks}
 use Rattle.layout.specs.declared.holds.Holds.TheVariants.{SetUp, Posts}
 use Rattle.layout.specs.declared.holds.SetupPart.{SetupPart}
 use Rattle.layout.specs.declared.outline.Outline.{Outline}
-use Rattle.layout.proofs.Checked as table
-use Rattle.layout.proofs.Checked.{pass_taken}
+use Rattle.amounts.proofs.decline.Laws as table
+use Rattle.amounts.proofs.decline.Laws.{pass_taken}
 use Rattle.layout.proofs.frame.Made.{held_made, count_made, body_made, made_passes}
 use Rattle.layout.proofs.holds.Laws.{of_posts_lem}
 use Rattle.post.specs.Moves.{well_formed}

@@ -8,12 +8,11 @@ use lib.ListN.{length, get_or, drop}
 use lib.Seq.{get_or-drop}
 use Rattle.std.specs.Prelude.{Ok}
 use Rattle.amounts.specs.Decline.{checked, on_taken}
-use Rattle.amounts.proofs.decline.Laws.{was_taken}
 use Rattle.encoding.specs.Bytes.{le}
 use Rattle.layout.specs.Frame.{block_kind, frame_checks, held_at}
 use Rattle.layout.specs.Holds.{holds_of}
 use Rattle.layout.specs.declared.holds.Holds.{Holds}
-use Rattle.layout.proofs.Checked.{passed, guards}
+use Rattle.amounts.proofs.decline.Laws.{was_taken, passed, guards}
 use Rattle.encoding.proofs.bytes.Laws.{le_small}
 
 pub record Framed (number : ℕ) (s : List ℕ) : Type 0 where

@@ -10,7 +10,7 @@ use Rattle.amounts.specs.Decline.{checked}
 use Rattle.layout.specs.Outline.{may_post}
 use Rattle.layout.specs.Posts.{own_checks}
 use Rattle.layout.specs.declared.outline.Outline.{Outline}
-use Rattle.layout.proofs.Checked.{passed}
+use Rattle.amounts.proofs.decline.Laws.{passed}
 use Rattle.encoding.proofs.bytes.Laws.{within_true}
 
 pub record Owned (o : Outline) (closed : Bool) (count : ℕ) (body : List ℕ) : Type 0 where

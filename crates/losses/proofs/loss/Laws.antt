@@ -18,7 +18,7 @@ use Rattle.losses.specs.declared.coefficient.CoefficientRow.{CoefficientRow}
 use Rattle.forms.specs.declared.form.LossForm.{LossForm}
 use Rattle.amounts.proofs.decline.Laws.{one_taken, was_taken}
 use Rattle.forms.proofs.form.Laws.{not_in_form}
-use Rattle.losses.proofs.loss.Finite.{at_most}
+use Rattle.forms.proofs.Within.{at_most}
 
 -- ---- what is negative has no whole part
 

@@ -68,7 +68,9 @@ body_in body long =
 pub declined : (p : Page) (a : Answer Tally) (f : Tally → Answer Page) (d : Decline) (u : Tally) → Counts p.draft.tally a (Err d) u → p.filled ≡ p.draft.tally.blocks * 512
     → Answers p (on_taken a f) (Err d) (page_of p.bytes (u.blocks * 512) (draft_of u p.draft.block))
 declined p (Ok x) f d u c e = let z = c.verdict in cc
-declined p (Err n) f d u c e = record { verdict = c.verdict; after = ap₂ (λ (m : ℕ) (x : Tally). page_of p.bytes m (draft_of x p.draft.block)) (ap (λ (x : Tally). x.blocks * 512) c.after ∙ sym e) c.after }
+declined p (Err n) f d u c e =
+    let as_filled : u.blocks * 512 ≡ p.filled = ap (λ (x : Tally). x.blocks * 512) c.after ∙ sym e in
+    record { verdict = c.verdict; after = ap₂ (λ (m : ℕ) (x : Tally). page_of p.bytes m (draft_of x p.draft.block)) as_filled c.after }
 
 -- a call that is taken
 taken : (p q : Page) (a : Answer Tally) (f : Tally → Page) (u : Tally) → Counts p.draft.tally a (Ok (tt {0})) u → q ≡ f u → Answers p (on_taken a (λ u. Ok (f u))) (Ok tt) q
@@ -136,7 +138,8 @@ finished_is p count block bytes u sound e b =
     let filled : u.blocks * 512 ≡ p.filled + 512 = omega (arith, ap (λ (x : Tally). x.blocks) e, sound.filled_is) in
     let is : bytes ≡ placed p.bytes p.filled (posts_block count p.draft.tally.blocks block) =
     b ∙ ap (λ (n : ℕ). placed p.bytes n (posts_block count p.draft.tally.blocks block)) (sym sound.filled_is) in
-    ap₂ (λ (x : List ℕ) (n : ℕ). page_of x n (fresh_draft u)) is filled ∙ ap (λ (x : Tally). page_of (placed p.bytes p.filled (posts_block count p.draft.tally.blocks block)) (p.filled + 512) (fresh_draft x)) e
+    let written = placed p.bytes p.filled (posts_block count p.draft.tally.blocks block) in
+    ap₂ (λ (x : List ℕ) (n : ℕ). page_of x n (fresh_draft u)) is filled ∙ ap (λ (x : Tally). page_of written (p.filled + 512) (fresh_draft x)) e
 
 module _ (p : Page) (sound : Sound p) (s : List ℕ) (u : Tally) (c : Counts p.draft.tally (tally.post_on (length p.bytes) p.draft.tally s) (Ok (tt {0})) u) where
   abbrev v : Tally

@@ -10,7 +10,7 @@ use lib.ListN.{length}
 use Rattle.std.specs.Prelude.{Ok, Err}
 use Rattle.amounts.specs.Decline.{Answer, Check, check, checked, on_taken, verdict_of}
 use Rattle.amounts.specs.declared.decline.Decline.TheVariants.{OutOfTurn, NoRoom}
-use Rattle.layout.proofs.Checked.{AllPass, passed, pass_both}
+use Rattle.amounts.proofs.decline.Laws.{AllPass, passed, pass_both}
 use Rattle.std.proofs.lemmas.Bool.{and_parts}
 use Rattle.layout.specs.Holds.{holds_of}
 use Rattle.layout.specs.Outline.{may_post, may_set_up, may_describe}

@@ -10,7 +10,7 @@ use Rattle.std.specs.Array.{IsFromFnResult}
 use Rattle.std.specs.Prelude.{Ok, Err}
 use Rattle.amounts.specs.Decline.{checked}
 use Rattle.amounts.specs.declared.decline.Decline.{Decline}
-use Rattle.layout.proofs.Checked.{accepts, declines}
+use Rattle.amounts.proofs.decline.Laws.{accepts, declines}
 use Rattle.encoding.specs.Bytes.{le, les}
 use Rattle.encoding.specs.Each.{sum_to}
 use Rattle.encoding.proofs.Each.{list_made}

@@ -16,7 +16,7 @@ use Rattle.amounts.specs.declared.decline.Decline.TheVariants.{Layout}
 use Rattle.layout.specs.Outline.{may_post}
 use Rattle.plant.specs.Setup.{no_rates, no_pair, no_stage, materials_in, stages_in, classes_in, contents_in, counted_all, setup_checks, fresh_setup, setup_of, Rated, SoundSetup}
 use Rattle.layout.specs.declared.outline.Outline.{Outline}
-use Rattle.layout.proofs.Checked.{passed}
+use Rattle.amounts.proofs.decline.Laws.{passed}
 use Rattle.encoding.proofs.Each.{list_keeps}
 use Rattle.encoding.proofs.bytes.Laws.{within_true}
 

@@ -18,7 +18,7 @@ use Rattle.plant.specs.Stage.{stage_of, side_row, rate_row, pair_row, pair_fits,
 use Rattle.layout.specs.declared.outline.Outline.{Outline}
 use Rattle.plant.specs.declared.setup.Rates.{Rates}
 use Rattle.plant.specs.declared.setup.Setup.{Setup}
-use Rattle.layout.proofs.Checked.{passed}
+use Rattle.amounts.proofs.decline.Laws.{passed}
 use Rattle.std.proofs.lemmas.Bool.{and_parts}
 use Rattle.encoding.proofs.Each.{all_at, length-put, put_keeps}
 

@@ -1,4 +1,5 @@
-//! Posts by their bytes, blocks by what these tests say of them, and books made of blocks.
+//! Posts by their bytes, blocks by what these tests say of them, and books made of blocks; floats
+//! outside every range.
 #![allow(dead_code, unused_imports)]
 
 use blocks::{Pair, Stage, POST};
@@ -55,6 +56,21 @@ pub fn found(stage: u8, substance: u8, content: u32, grams: u64) -> Post {
 pub fn close() -> Post {
     blocks::Post::CLOSE.bytes()
 }
+
+/// The bits of floats that are in no range.
+pub const ODD: [u64; 11] = [
+    0x7ff0_0000_0000_0000, // an infinity
+    0xfff0_0000_0000_0000, // the other
+    0x7ff0_0000_0000_0001, // a signalling NaN
+    0xfff7_ffff_ffff_ffff, // one of the other sign, with the rest of its payload
+    0x7ff8_0000_0000_0000, // a quiet NaN
+    0xfff8_0000_0000_0000, // one of the other sign
+    0x7fff_ffff_ffff_ffff, // one with its whole payload
+    0xffff_ffff_ffff_ffff, // the same of the other sign
+    0x8000_0000_0000_0001, // the least negative number
+    0xbff0_0000_0000_0000, // -1
+    0x7fef_ffff_ffff_ffff, // the greatest number
+];
 
 /// Side, then gas removal, gas destruction, water removal, water destruction.
 pub type Treated = (u8, [u32; 4]);

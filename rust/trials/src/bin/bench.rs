@@ -14,6 +14,7 @@ use std::time::{Duration, Instant};
 use blocks::{tens, Block, Post, BLOCK};
 use prtr::Class;
 use trials::floats::{within, RANGES};
+use trials::mixtures::Mixture;
 use trials::program;
 use trials::rng::Rng;
 use trials::site::{self, ROWS, WHOLE};
@@ -187,6 +188,23 @@ fn bench_losses() {
     }
 }
 
+fn bench_pressures() {
+    let mut rng = Rng::new(4);
+    let mixtures = inputs(|| Mixture::within(&mut rng));
+    let mixtures: Vec<&Mixture> = mixtures.iter().collect();
+    bench_leaf(
+        "partial pressure",
+        &mixtures,
+        |m| {
+            let mut cell = 0;
+            let status =
+                prtr::raw::pressure(&m.contents, &m.weights, m.named, m.pressure, &mut cell);
+            (status, cell)
+        },
+        |m| model::pressure(&m.contents, &m.weights, m.named, m.pressure),
+    );
+}
+
 /// A line of /proc/PID/status, behind its name.
 fn status(child: &Child, name: &str) -> Option<String> {
     let text = fs::read_to_string(format!("/proc/{}/status", child.id())).ok()?;
@@ -298,5 +316,6 @@ fn main() {
     bench_writes("11 plants' years written, each", &years);
     bench_leaves();
     bench_losses();
+    bench_pressures();
     bench_memory(&years);
 }

@@ -28,6 +28,7 @@ static const char *name(uint8_t status)
     case PRTR_NO_SUBSTANCE: return "PRTR_NO_SUBSTANCE";
     case PRTR_NO_ROOM: return "PRTR_NO_ROOM";
     case PRTR_STOCK_COUNT: return "PRTR_STOCK_COUNT";
+    case PRTR_MIXTURE: return "PRTR_MIXTURE";
     case PRTR_MALFORMED: return "PRTR_MALFORMED";
     default: return "unknown";
     }
@@ -35,7 +36,7 @@ static const char *name(uint8_t status)
 
 static void names(void)
 {
-    for (uint8_t status = 0; status < 16; status++)
+    for (uint8_t status = 0; status < 20; status++)
         printf("status %u %s\n", status, name(status));
     printf("status 255 %s\n", name(255));
 }
@@ -161,6 +162,25 @@ static void loss(uint8_t form, uint16_t number, double w, double u, double p, do
     printf("loss %u %u %s micrograms %" PRIu64 "\n", form, number, name(status), micrograms);
 }
 
+/*
+ * The partial pressure of a part of document 004's solvent, of its first n contents and m weights, and the toluene that
+ * is lost at that pressure while 2,000 m3 are filled.
+ */
+static void pressure(size_t n, size_t m, size_t named, double vapour)
+{
+    static const double contents[3] = {40, 45, 15}, weights[3] = {92.1, 106.2, 78.1};
+    uint64_t content_bits[3], weight_bits[3], bits, partial = 99;
+    double u;
+    memcpy(content_bits, contents, sizeof content_bits);
+    memcpy(weight_bits, weights, sizeof weight_bits);
+    memcpy(&bits, &vapour, sizeof bits);
+    uint8_t status = prtr_pressure(content_bits, n, weight_bits, m, named, bits, &partial);
+    printf("pressure %zu %zu %zu %s partial %" PRIx64 "\n", n, m, named, name(status), partial);
+    memcpy(&u, &partial, sizeof u);
+    if (status == 0)
+        loss(2, 300, 2000, u, 98100, 1);
+}
+
 /* How many bytes of out, from its end, are as they were filled. */
 static size_t untouched(const uint8_t *out)
 {
@@ -262,6 +282,11 @@ int main(void)
     loss(1, 400, 0, 0, 0, 0);
     loss(2, 7, 0, 0, 1, 0);
     loss(3, 7, 2000, 1001, 0, 0);
+    pressure(3, 3, 0, 3750);
+    pressure(3, 3, 3, 3750);
+    pressure(3, 2, 0, 3750);
+    pressure(0, 0, 0, 3750);
+    pressure(3, 3, 0, -1);
     xylene_year(journal);
     filing(journal, sizeof journal);
     filing(journal, 0);
