@@ -1,3 +1,3 @@
-pub mod Adding
 pub mod Bound
+pub mod Laws
 pub mod Worked

@@ -11,23 +11,23 @@ use Rattle.forms.specs.declared.pattern.Range.{Range}
 -- ---- parts
 
 -- "Contents are 0.0001 to 100", in weight percent
-abbrev pub contents : Range
-contents = record { low = decimal 1 10000; high = whole 100 }
+abbrev pub content_range : Range
+content_range = record { low = decimal 1 10000; high = whole 100 }
 
 -- "M is 1 to 1,000"
-abbrev pub weights : Range
-weights = 1 to 1000
+abbrev pub weight_range : Range
+weight_range = 1 to 1000
 
 -- "and the pressure, given for the named part alone, is 0 to 10^9", in Pa
-abbrev pub pressures : Range
-pressures = 0 to 10 ^ 9
+abbrev pub pressure_range : Range
+pressure_range = 0 to 10 ^ 9
 
 -- a part of the mixture: its content and its M
 abbrev pub Part : Type 0
 Part = Float × Float
 
 abbrev pub part_fits : Part → Bool
-part_fits part = in_range contents part.0 && in_range weights part.1
+part_fits part = in_range content_range part.0 && in_range weight_range part.1
 
 -- "its content / its M"
 abbrev pub quotient_of : Part → Float
@@ -39,7 +39,7 @@ quotient_of part = part.0 ⊘ part.1
 abbrev pub sum_from : Float → List Float → Float
 sum_from sum quotients = fold (λ s q. s ⊕ q) sum quotients
 
--- "the sum being content / M": it starts with the first part's quotient
+-- "the sum being content / M": it starts with the first part's quotient; no part, which is declined, has none
 abbrev pub sum_of : List Float → Float
 sum_of [] = whole 0
 sum_of (first ∷ rest) = sum_from first rest
@@ -58,7 +58,7 @@ mixed ok a = checked (check ok Mixture ∷ []) a
 abbrev pub may_mix : List Float → List Float → ℕ → Float → Bool
 may_mix cs ms named pressure =
     (nat_le 1 (length cs) && nat_le (length cs) 8)
-    && (eqb (length ms) (length cs) && (nat_lt named (length cs) && (in_range pressures pressure && list_all part_fits (zip cs ms))))
+    && (eqb (length ms) (length cs) && (nat_lt named (length cs) && (in_range pressure_range pressure && list_all part_fits (zip cs ms))))
 
 -- by the contents and the Ms of the parts, the place of the named one and its vapour pressure
 unfoldable pub partial_of : List Float → List Float → ℕ → Float → Answer Float
@@ -68,10 +68,6 @@ partial_of cs ms named pressure = mixed (may_mix cs ms named pressure) (pressure
 -- the floats that bit patterns are
 abbrev pub floats_of : List ℕ → List Float
 floats_of patterns = map value_of patterns
-
--- the parts whose contents and Ms the patterns are
-abbrev pub parts_of : List ℕ → List ℕ → List Part
-parts_of cs ms = zip (floats_of cs) (floats_of ms)
 
 -- ---- what is promised of an answer besides
 

@@ -3,8 +3,8 @@ ghost use Rattle.std.specs.Prelude.{◌≡◌, ◌<◌, map, length, Float, Ok};
 ghost use Rattle.std.specs.List.{list_all};
 ghost use Rattle.forms.specs.Binary64.{value_of};
 ghost use Rattle.forms.specs.Pattern.{in_range};
-ghost use Rattle.mixture.specs.Pressure.{floats_of, parts_of, part_fits, quotient_of, sum_of, mixed, partial_of, Bounded};
-ghost use Rattle.mixture.specs.Steps.{part_at, plus};
+ghost use Rattle.mixture.specs.Pressure.{floats_of, part_fits, quotient_of, sum_of, mixed, partial_of, Bounded};
+ghost use Rattle.mixture.specs.Steps.{parts_of, part_at, plus};
 
 use amounts::decline::{Decline, check};
 use forms::pattern;

@@ -20,7 +20,7 @@ use Rattle.amounts.proofs.decline.Laws.{one_taken}
 use Rattle.forms.specs.Binary64.{decimal, whole, ◌⊗◌, ◌⊘◌, ◌⊕◌, finite}
 use Rattle.forms.specs.Pattern.{in_range}
 use Rattle.forms.proofs.Within.{Under, Within, Over, under, within, over, both_zero, T_of, of_T, at_most, capped, over_more, chain, within_under, exact_whole, exact_power, rounded, rounded_under, mul_sign, div_within, add_within, within_finite, in_range_lem, in_range_one}
-use Rattle.mixture.specs.Pressure.{contents, weights, pressures, Part, part_fits, quotient_of, sum_from, sum_of, pressure_of, may_mix, partial_of, Bounded}
+use Rattle.mixture.specs.Pressure.{content_range, weight_range, pressure_range, Part, part_fits, quotient_of, sum_from, sum_of, pressure_of, may_mix, partial_of, Bounded}
 
 -- ---- values that f64 holds
 
@@ -151,7 +151,7 @@ unfolding round
 least_value = (refl, refl)
 
 -- a content is 2 ^ -14 at least, and 2 ^ 7 at most
-content_bounds : (x : Float) → in_range contents x ≡ true → Over 1 (2 ^ 14) x × Within 7 x
+content_bounds : (x : Float) → in_range content_range x ≡ true → Over 1 (2 ^ 14) x × Within 7 x
 unfolding in_range
 content_bounds x e =
     let f = and_parts (finite x) (le (decimal 1 10000) x && le x (whole 100)) e in
@@ -177,7 +177,7 @@ quotient_above (over m e h) (over (suc n) d k) (within s n' c z w) =
 quotient_held : (p : Part) → part_fits p ≡ true → Held 7 (quotient_of p)
 unfolding fits
 quotient_held p e =
-    let f = and_parts (in_range contents p.0) (in_range weights p.1) e in
+    let f = and_parts (in_range content_range p.0) (in_range weight_range p.1) e in
     let content = content_bounds p.0 f.0 in
     let weight = in_range_one 1000 f.1 in
     let above = quotient_above content.0 weight (in_range_lem 1 1000 10 tt f.1) in
@@ -250,10 +250,10 @@ pressure_bounded cs ms named pressure x e =
     let z = one_taken (may_mix cs ms named pressure) Mixture (pressure_of pressure named (map quotient_of (zip cs ms))) x (sym e) in
     let qs = map quotient_of (zip cs ms) in
     let size = length cs in
-    let a = and_parts (nat_le 1 size && nat_le size 8) (eqb (length ms) size && (nat_lt named size && (in_range pressures pressure && list_all part_fits (zip cs ms)))) z.0 in
-    let b = and_parts (eqb (length ms) size) (nat_lt named size && (in_range pressures pressure && list_all part_fits (zip cs ms))) a.1 in
-    let c = and_parts (nat_lt named size) (in_range pressures pressure && list_all part_fits (zip cs ms)) b.1 in
-    let d = and_parts (in_range pressures pressure) (list_all part_fits (zip cs ms)) c.1 in
+    let a = and_parts (nat_le 1 size && nat_le size 8) (eqb (length ms) size && (nat_lt named size && (in_range pressure_range pressure && list_all part_fits (zip cs ms)))) z.0 in
+    let b = and_parts (eqb (length ms) size) (nat_lt named size && (in_range pressure_range pressure && list_all part_fits (zip cs ms))) a.1 in
+    let c = and_parts (nat_lt named size) (in_range pressure_range pressure && list_all part_fits (zip cs ms)) b.1 in
+    let d = and_parts (in_range pressure_range pressure) (list_all part_fits (zip cs ms)) c.1 in
     let few : size ≤ 8 = leb→le size 8 (T_of (and_parts (nat_le 1 size) (nat_le size 8) a.0).1) in
     let there : named < size = ltb→lt named size (T_of c.0) in
     let many : length qs ≡ size = length-map (zip cs ms) quotient_of ∙ length-zip cs ms ∙ shorter size (length ms) (eqb→eq (length ms) size (T_of b.0)) in

@@ -2,7 +2,7 @@ use Rattle.std.proofs.Common.{rules, sym, ◌∙◌}
 use Rattle.std.proofs.lemmas.Result.{err_from_is_err_and}
 use Rattle.forms.specs.Binary64.{value_of}
 use Rattle.mixture.proofs.Numerals.{ends}
-use Rattle.mixture.proofs.pressure.Adding.{part_declined, answered}
+use Rattle.mixture.proofs.pressure.Laws.{part_declined, answered}
 use Rattle.mixture.proofs.pressure.Bound.{pressure_bounded}
 use Rattle.mixture.specs.Pressure.{floats_of}
 use Rattle.mixture.proofs.pressure.partial_pressure.Goals as goal

@@ -1,6 +1,6 @@
 use Rattle.std.proofs.Common.{rules, sym, ◌∙◌}
 use Rattle.forms.proofs.Numerals.{nought}
-use Rattle.mixture.proofs.pressure.Adding.{added_none}
+use Rattle.mixture.proofs.pressure.Laws.{added_none}
 use Rattle.mixture.proofs.pressure.sum_of.Goals as goal
 
 pub returns : goal.returns

@@ -1,6 +1,6 @@
 use Rattle.std.proofs.Common.{◌≡◌, drop}
 use Rattle.std.specs.Prelude.{None}
-use Rattle.mixture.proofs.pressure.Adding.{added}
+use Rattle.mixture.proofs.pressure.Laws.{added}
 use Rattle.mixture.proofs.pressure.sum_of.Given as goal
 
 -- The parts still to come give the whole answer.
