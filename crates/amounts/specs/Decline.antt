@@ -1,7 +1,8 @@
 -- Why a call is declined (document 01, "Why a call is declined, in checking order"), and the table of checks that finds it.
 use Rattle.std.specs.Prelude.{ℕ, Bool, true, false, List, [], ◌∷◌, Result, Ok, Err, is_ok}
 use Rattle.amounts.specs.declared.decline.Decline.{Decline}
-use Rattle.amounts.specs.declared.decline.Decline.TheVariants.{NotABlock, CheckSum, NotNext, OutOfTurn, Closed, Layout, OutOfRange, NoRow, Excess, Full, Short, NoSubstance, NoRoom, StockCount, Mixture}
+use Rattle.amounts.specs.declared.decline.Decline.TheVariants.{NotABlock, CheckSum, NotNext, OutOfTurn, Closed, Layout, OutOfRange, NoRow}
+use Rattle.amounts.specs.declared.decline.Decline.TheVariants.{Excess, Full, Short, NoSubstance, NoRoom, StockCount, Mixture}
 
 -- what a call answers: the value asked for, or its decline
 abbrev pub Answer : Type 0 → Type 0

@@ -22,7 +22,6 @@ fn add_part(setup: &mut Setup, part: SetupPart, count: u8, body: &[u8]) -> Resul
 
 impl Book {
     // One block of any bytes, in place: a decline leaves the posts before it.
-    #[tactic(auto, unfolding(crate::specs::Block::block_on))]
     pub(crate) fn enter_block(&mut self, s: &[u8]) -> Result<(), Decline>
         ensures verdict { result ≡ verdict_of (block_on self.old s.now) }
         ensures taken { OnOk result (block_on self.old s.now ≡ Ok self.new) }

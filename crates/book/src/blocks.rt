@@ -7,7 +7,7 @@ use crate::site::Book;
 use amounts::decline::Decline;
 
 // The first block that is declined, by its place from 0, and why.
-#[derive(Clone, Copy, Debug, PartialEq, Eq)]
+#[derive(Clone, Copy)]
 pub struct Refused {
     pub place: u32,
     pub decline: Decline,

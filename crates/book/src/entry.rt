@@ -1,15 +1,17 @@
 // A move entered in a year.
-ghost use Rattle.std.specs.Prelude.{◌≡◌, true};
+ghost use Rattle.std.specs.Prelude.{◌≡◌, ℕ, ◌+◌, ◌-◌, ◌^◌, ◌≤◌, ◌<◌, true, get_or, set};
 ghost use Rattle.amounts.specs.Decline.{value_or, verdict_of};
+ghost use Rattle.kinds.specs.declared.account.Account.TheVariants.{Held};
 ghost use Rattle.book.specs.Entry.{is_there, year_after};
+ghost use Rattle.book.specs.Ledger.{cell, cell_of, raised, brings};
 ghost use Rattle.book.specs.Posts.{entered};
 ghost use Rattle.book.specs.Steps.{Room, widest};
 ghost use Rattle.post.specs.Steps.{Fits};
 
 use crate::ledger;
-use crate::ledger::at;
+use crate::ledger::cell_of;
 use crate::site::Year;
-use amounts::decline::{Decline, check};
+use amounts::decline::Decline;
 use kinds::account::Account;
 use plant::setup::Setup;
 use post::moves::Move;
@@ -31,9 +33,31 @@ impl Year {
                 substance,
                 amount,
                 ..
-            } => amount <= self.sums[at(Account::Held, stage * 8 + substance)],
+            } => amount <= self.sums[cell_of(Account::Held, stage, substance)],
             Move::Received { .. } | Move::Brought { .. } | Move::Close => true,
         }
+    }
+
+    // Grams leave the store for a stage.
+    fn issue(&mut self, counted: &[u32; 96], material: usize, stage: usize, grams: u64)
+        requires material_bound { (material < 12) × (stage < 8) }
+        requires there { grams ≤ get_or self.old.store material 0 }
+        requires sums_bound { (s : ℕ) → s < 8 → cell self.old.sums Held stage s + brings counted.now material grams s < 2 ^ 64 }
+        requires handled_bound { (s : ℕ) → s < 8 → get_or self.old.handled s 0 + brings counted.now material grams s < 2 ^ 64 }
+        ensures store_after { self.new.store ≡ set self.old.store material (get_or self.old.store material 0 - grams) }
+        ensures sums_after { self.new.sums ≡ raised (cell_of Held stage) (brings counted.now material grams) self.old.sums 8 }
+        ensures handled_after { self.new.handled ≡ raised (λ s. s) (brings counted.now material grams) self.old.handled 8 }
+        ensures others { (self.new.posts ≡ self.old.posts) × (self.new.closed ≡ self.old.closed) }
+    {
+        self.store[material] -= grams;
+        ledger::issue(
+            &mut self.sums,
+            &mut self.handled,
+            counted,
+            material,
+            stage,
+            grams,
+        );
     }
 
     // The move, whose amount is there, and a post more.
@@ -50,37 +74,26 @@ impl Year {
                 material,
                 stage,
                 grams,
-            } => {
-                self.store[material] -= grams;
-                ledger::issue(
-                    &mut self.sums,
-                    &mut self.handled,
-                    &setup.counted,
-                    material,
-                    stage,
-                    grams,
-                );
-            }
+            } => self.issue(&setup.counted, material, stage, grams),
             Move::Brought {
                 account,
                 stage,
                 substance,
                 amount,
             } => {
-                self.sums[at(account, stage * 8 + substance)] += amount;
-                self.handled[substance] += amount;
+                let cell = cell_of(account, stage, substance);
+                ledger::bring(&mut self.sums, &mut self.handled, cell, substance, amount);
             }
             Move::Gone {
                 account,
                 stage,
                 substance,
                 amount,
-            } => ledger::shift(
-                &mut self.sums,
-                at(Account::Held, stage * 8 + substance),
-                at(account, stage * 8 + substance),
-                amount,
-            ),
+            } => {
+                let from = cell_of(Account::Held, stage, substance);
+                let to = cell_of(account, stage, substance);
+                ledger::shift(&mut self.sums, from, to, amount);
+            }
             Move::Close => ledger::settle(&mut self.sums, &setup.pairs),
         }
     }
@@ -92,8 +105,11 @@ impl Year {
         ensures verdict { result ≡ verdict_of (entered setup.now self.old m) }
         ensures year { self.new ≡ value_or self.old (entered setup.now self.old m) }
     {
-        check(self.has(m), Decline::Short)?;
-        self.apply(setup, m);
-        Ok(())
+        if self.has(m) {
+            self.apply(setup, m);
+            Ok(())
+        } else {
+            Err(Decline::Short)
+        }
     }
 }

@@ -2,7 +2,7 @@
 ghost use Rattle.std.specs.Prelude.{◌≡◌, ℕ, ◌^◌, ◌+◌, ◌-◌, ◌*◌, ◌≤◌, ◌<◌, length, get_or, set};
 ghost use Rattle.kinds.specs.Account.{place};
 ghost use Rattle.kinds.specs.declared.account.Account.TheVariants.{Held};
-ghost use Rattle.book.specs.Ledger.{at, cell_of, total, moved, raised, brings, settled};
+ghost use Rattle.book.specs.Ledger.{at, cell_of, total, added, moved, raised, brings, settled};
 
 use kinds::account::{Account, closes_to};
 use plant::setup::Pair;
@@ -13,6 +13,31 @@ pub(crate) fn at(account: Account, pair: usize) -> usize
     ensures { result ≡ at (place account) pair }
 {
     account as usize * 64 + pair
+}
+
+// The same by account, stage and substance.
+pub(crate) fn cell_of(account: Account, stage: usize, substance: usize) -> usize
+    requires { (stage < 8) × (substance < 8) }
+    ensures { result ≡ cell_of account stage substance }
+{
+    at(account, stage * 8 + substance)
+}
+
+// An amount comes to a sum from outside, and counts as handled.
+pub(crate) fn bring(
+    sums: &mut [u64; 576],
+    handled: &mut [u64; 8],
+    cell: usize,
+    substance: usize,
+    amount: u64,
+)
+    requires place_bound { (cell < 576) × (substance < 8) }
+    requires amount_bound { (get_or sums.old cell 0 + amount < 2 ^ 64) × (get_or handled.old substance 0 + amount < 2 ^ 64) }
+    ensures sums_after { sums.new ≡ added sums.old cell amount }
+    ensures handled_after { handled.new ≡ added handled.old substance amount }
+{
+    sums[cell] += amount;
+    handled[substance] += amount;
 }
 
 // An amount goes from one sum to another.

@@ -25,7 +25,6 @@ impl Book {
     }
 
     // The posts of a kind 3 block, in place: a decline leaves those before it.
-    #[tactic(auto, unfolding(crate::specs::Posts::posts_on))]
     pub(crate) fn take_posts(&mut self, count: u8, body: &[u8]) -> Result<(), Decline>
         ensures verdict { result ≡ verdict_of (posts_on self.old.setup self.old.year count body.now) }
         ensures taken { OnOk result (posts_on self.old.setup self.old.year count body.now ≡ Ok self.new.year) }

@@ -1,5 +1,5 @@
 -- Document 01, "Figures to be established": F1 to F13, one table, each figure as it prints.
-use Rattle.std.specs.Prelude.{Bool, true, false, List, [], ◌∷◌, ℕ, ◌*◌, ◌^◌, Ok}
+use Rattle.std.specs.Prelude.{Bool, true, false, List, [], ◌∷◌, ℕ, ◌*◌, ◌^◌, ◌≡◌, map, Ok}
 use Rattle.amounts.specs.Content.{counted_of}
 use Rattle.amounts.specs.Decline.{Answer}
 use Rattle.amounts.specs.Filed.{filed_of}
@@ -76,3 +76,7 @@ table =
     -- F13: "1 at r = 999,999: released 1"
     ∷ (releasing 1 999999 gives released (λ d. 1))
     ∷ []
+
+-- each row is answered as it says
+abbrev pub Established : Type 0
+Established = map (λ (row : Row). answered row.asked) table ≡ map (λ (row : Row). row.figure) table

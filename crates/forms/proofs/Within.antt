@@ -1,5 +1,8 @@
 -- What an operation of f64 leaves of bounds on its operands: each rounds once, and rounding keeps an order between values. Assumes nothing.
-use Rattle.std.proofs.Common.{◌≡◌, ℕ, zero, suc, ◌+◌, ◌-◌, ◌*◌, ◌^◌, ◌<◌, ◌≤◌, Bool, true, false, cond, ◌&&◌, ◌||◌, T, eqb, ltb, leb, ◌⊎◌, ℤ, pos, sym, refl, ap, ◌∙◌, subst, inl, inr, true≢false, zero-le, le_trans, le_of_eq, le_refl, le_of_lt, lt_irrefl, lt_of_lt_of_le, mul-le-mul_right, zero-lt-suc, mul_assoc, mul_comm, mul-le-mul, eq-or-lt_of_le, mul-pos, one-mul, mul-zero, zero-mul, mul-one, mul_right_comm, le_of_mul-le-mul_right, arith, lit<, lit≤, le→leb, eqb→eq, ltb→lt, lt→ltb, leb→le, pow-add}
+use Rattle.std.proofs.Common.{◌≡◌, ℕ, zero, suc, ◌+◌, ◌-◌, ◌*◌, ◌^◌, ◌<◌, ◌≤◌, Bool, true, false, cond, ◌&&◌, ◌||◌, T, eqb, ltb, leb, ◌⊎◌, ℤ, pos}
+use Rattle.std.proofs.Common.{sym, refl, ap, ◌∙◌, subst, inl, inr, true≢false, zero-le, le_trans, le_of_eq, le_refl, le_of_lt, lt_irrefl, lt_of_lt_of_le, mul-le-mul_right, zero-lt-suc}
+use Rattle.std.proofs.Common.{mul_assoc, mul_comm, mul-le-mul, eq-or-lt_of_le, mul-pos, one-mul, mul-zero, zero-mul, mul-one, mul_right_comm, le_of_mul-le-mul_right, arith, lit<, lit≤, le→leb}
+use Rattle.std.proofs.Common.{eqb→eq, ltb→lt, lt→ltb, leb→le, pow-add}
 use mathlib.Core.Bool.{beq}
 use native.Mathlib.Nat.{pow-succ', mul-mul-mul_comm, eq_of_mul-eq-mul_right}
 use lib.Dec.{eqb_refl, eqb-suc-zero}
@@ -140,7 +143,8 @@ over_more (inf _) A (over l j v) f p = elim f [ ]
 
 -- ---- the operations
 -- the one rounding of an operation whose exact result, ±a / c, is from 0 to a b / d that rounding keeps
-pub rounded_under : {b d : ℕ} (s : Bool) (a c : ℕ) → HasValue (round binary64 false b d) false b d → 0 < c → 0 < d → (T s → a ≡ 0) → a * d ≤ b * c → Under b d (round binary64 s a c)
+pub rounded_under : {b d : ℕ} (s : Bool) (a c : ℕ) → HasValue (round binary64 false b d) false b d → 0 < c → 0 < d → (T s → a ≡ 0) → a * d ≤ b * c
+    → Under b d (round binary64 s a c)
 rounded_under {b} {d} false a c v C D z h =
     let above = round_mono binary64 0 1 a c (lit< tt) C (rw zero-mul zero-le) in
     capped 0 1 (whole 0) (round binary64 false b d) (round binary64 false a c) (exact_whole 0 zero-le) v D above (round_mono binary64 a c b d C D h)

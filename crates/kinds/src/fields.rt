@@ -3,7 +3,7 @@ use encoding::bytes;
 
 // As its bytes are, kind and form by number: what they name is read where declines are told. Floats are kept as bit patterns. In kind 12 the form stands in the
 // material's place.
-#[derive(Clone, Copy, Debug, PartialEq, Eq)]
+#[derive(Clone, Copy)]
 pub struct Post {
     pub kind: u8,
     pub material: u8,

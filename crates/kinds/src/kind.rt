@@ -1,6 +1,6 @@
 // The kinds of posts: one row for each, with the limits of its fields, how its amount is measured, and what it does.
 ghost use Rattle.std.specs.Prelude.{◌≡◌};
-ghost use Rattle.kinds.specs.Kind.{fields_fit, kind_of, limited, below, of_stock, of_issue, of_micrograms, of_content, of_form};
+ghost use Rattle.kinds.specs.Kind.{in_span, fields_fit, kind_of, limited, below, of_stock, of_issue, of_micrograms, of_content, of_form};
 
 use crate::account::Account;
 use crate::fields::Post;
@@ -9,7 +9,7 @@ use layout::outline::Outline;
 use std::ops::Range;
 
 // What a post's fields may be.
-#[derive(Clone, Debug, PartialEq, Eq, Drop)]
+#[derive(Drop)]
 pub struct Limits {
     pub material: Range<u64>,
     pub stage: Range<u64>,
@@ -19,7 +19,7 @@ pub struct Limits {
 }
 
 // How a kind's amount is had: its quantity as stated, its quantity times its content, or the loss of its floats.
-#[derive(Clone, Copy, Debug, PartialEq, Eq)]
+#[derive(Clone, Copy)]
 pub enum Measure {
     Quantity,
     Content,
@@ -27,7 +27,7 @@ pub enum Measure {
 }
 
 // What a kind does with its amount.
-#[derive(Clone, Copy, Debug, PartialEq, Eq)]
+#[derive(Clone, Copy)]
 pub enum Does {
     Receives,
     Issues,
@@ -36,7 +36,7 @@ pub enum Does {
     Closes,
 }
 
-#[derive(Clone, Debug, PartialEq, Eq, Drop)]
+#[derive(Drop)]
 pub struct Kind {
     pub limits: Limits,
     pub measure: Measure,
@@ -157,15 +157,22 @@ pub fn kind_of(o: Outline, number: u8) -> Result<Kind, Decline>
     })
 }
 
+// Whether a number is among those that a field may be.
+fn in_span(span: &Range<u64>, n: u64) -> bool
+    ensures { result ≡ in_span span.now n }
+{
+    span.contains(&n)
+}
+
 impl Limits {
     // Whether each field is within its limits.
     pub fn admit(&self, post: &Post) -> bool
         ensures { result ≡ fields_fit self.now post.now }
     {
-        self.material.contains(&u64::from(post.material))
-            && self.stage.contains(&u64::from(post.stage))
-            && self.substance.contains(&u64::from(post.substance))
-            && self.content.contains(&u64::from(post.content))
-            && self.quantity.contains(&post.quantity)
+        in_span(&self.material, u64::from(post.material))
+            && in_span(&self.stage, u64::from(post.stage))
+            && in_span(&self.substance, u64::from(post.substance))
+            && in_span(&self.content, u64::from(post.content))
+            && in_span(&self.quantity, post.quantity)
     }
 }

@@ -34,16 +34,24 @@ weighted_sum s = sum_to (length s) (λ i. get_or s i 0 * (i + 1)) % 65521
 abbrev pub sums_of : List ℕ → CheckSums
 sums_of s = record { plain = plain_sum (take 508 s); weighted = weighted_sum (take 508 s) }
 
+-- 1: the length and the tag
+abbrev pub block_checks : List ℕ → List Check
+block_checks s = check (eqb (length s) 512) NotABlock ∷ check (has_tag s) NotABlock ∷ []
+
+-- 2: the sums
+abbrev pub sum_checks : List ℕ → List Check
+sum_checks s =
+    check (eqb (le 2 (drop 508 s)) (sums_of s).plain) CheckSum
+    ∷ check (eqb (le 2 (drop 510 s)) (sums_of s).weighted) CheckSum
+    ∷ []
+
+-- 3: the kind and the number
+abbrev pub next_checks : ℕ → List ℕ → List Check
+next_checks blocks s = check (is_taken (holds_of (block_kind s))) NotNext ∷ check (eqb (le 2 (drop 6 s)) blocks) NotNext ∷ []
+
 -- 1 to 3
 abbrev pub frame_checks : ℕ → List ℕ → List Check
-frame_checks blocks s =
-    check (eqb (length s) 512) NotABlock
-    ∷ check (has_tag s) NotABlock
-    ∷ check (eqb (le 2 (drop 508 s)) (sums_of s).plain) CheckSum
-    ∷ check (eqb (le 2 (drop 510 s)) (sums_of s).weighted) CheckSum
-    ∷ check (is_taken (holds_of (block_kind s))) NotNext
-    ∷ check (eqb (le 2 (drop 6 s)) blocks) NotNext
-    ∷ []
+frame_checks blocks s = block_checks s ++ (sum_checks s ++ next_checks blocks s)
 
 -- what a block that passes them holds
 unfoldable pub held_at : ℕ → List ℕ → Answer Holds

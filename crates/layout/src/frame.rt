@@ -1,7 +1,7 @@
 // A block's frame: its tag, its check sums, its kind and its number.
-ghost use Rattle.std.specs.Prelude.{◌≡◌, ◌+◌, ◌<◌, min, pos};
+ghost use Rattle.std.specs.Prelude.{◌≡◌, ◌+◌, ◌<◌, pos, take};
 ghost use Rattle.amounts.specs.Decline.{checked};
-ghost use Rattle.layout.specs.Frame.{has_tag, sums_of, body_of, block_of, frame_checks, held_at};
+ghost use Rattle.layout.specs.Frame.{has_tag, sums_of, body_of, summed, block_of, block_checks, sum_checks, next_checks, frame_checks, held_at};
 
 use crate::holds;
 use crate::holds::Holds;
@@ -9,7 +9,7 @@ use amounts::decline::{Decline, check};
 use encoding::bytes;
 
 // The sum of bytes, and of each byte times its place from 1, both modulo 65,521.
-#[derive(Clone, Copy, Debug, PartialEq, Eq)]
+#[derive(Clone, Copy)]
 pub struct CheckSums {
     pub plain: u16,
     pub weighted: u16,
@@ -47,27 +47,58 @@ fn place_of(i: usize) -> i16
     (i + 1) as i16
 }
 
-// Declines 1 to 3, a row of the table each, the two sums too. No check sum is taken where the length or the tag fails, since the sums are what a block's check costs.
+// Decline 1: the length and the tag.
 #[tactic(auto, unfolding(amounts::specs::Decline::checked))]
-pub fn check_frame(number: u32, s: &[u8]) -> Result<(), Decline>
-    ensures { result ≡ checked (frame_checks number s.now) (tt {0}) }
+fn check_block(s: &[u8]) -> Result<(), Decline>
+    ensures { result ≡ checked (block_checks s.now) (tt {0}) }
 {
     check(s.len() == 512, Decline::NotABlock)?;
-    check(has_tag(s), Decline::NotABlock)?;
+    check(has_tag(s), Decline::NotABlock)
+}
+
+// Decline 2: the two sums, a row of the table each.
+#[tactic(auto, unfolding(amounts::specs::Decline::checked))]
+fn check_stored_sums(s: &[u8]) -> Result<(), Decline>
+    ensures { result ≡ checked (sum_checks s.now) (tt {0}) }
+{
     let sums = check_sums(s);
     check(bytes::le16(s, 508) == sums.plain, Decline::CheckSum)?;
-    check(bytes::le16(s, 510) == sums.weighted, Decline::CheckSum)?;
-    check(holds::is_kind(s[4]), Decline::NotNext)?;
+    check(bytes::le16(s, 510) == sums.weighted, Decline::CheckSum)
+}
+
+// Decline 3: the kind and the number.
+#[tactic(auto, unfolding(amounts::specs::Decline::checked))]
+fn check_next(number: u32, s: &[u8]) -> Result<(), Decline>
+    ensures { result ≡ checked (next_checks number s.now) (tt {0}) }
+{
+    check(holds::is_kind(bytes::byte_at(s, 4)), Decline::NotNext)?;
     check(u32::from(bytes::le16(s, 6)) == number, Decline::NotNext)
 }
 
+// Declines 1 to 3. No check sum is taken where the length or the tag fails, since the sums are what a block's check costs.
+pub fn check_frame(number: u32, s: &[u8]) -> Result<(), Decline>
+    ensures { result ≡ checked (frame_checks number s.now) (tt {0}) }
+{
+    check_block(s)?;
+    check_stored_sums(s)?;
+    check_next(number, s)
+}
+
 // Declines 1 to 3, or what the block holds.
-#[tactic(auto, using(crate::proofs::frame::Laws::held_is))]
 pub fn read_frame(number: u32, s: &[u8]) -> Result<Holds, Decline>
     ensures { result ≡ held_at number s.now }
 {
     check_frame(number, s)?;
     Holds::try_from(bytes::byte_at(s, 4))
+}
+
+// Writes the check sums that the bytes before them ask for.
+fn write_sums(block: &mut [u8; 512])
+    ensures { block.new ≡ summed (take 508 block.old) }
+{
+    let sums = check_sums(block);
+    block[508..510].copy_from_slice(&sums.plain.to_le_bytes());
+    block[510..].copy_from_slice(&sums.weighted.to_le_bytes());
 }
 
 // The block of a kind, a count and a number over the body that it holds: the tag and the head before it, the check sums behind it. The kind is its byte, as it
@@ -80,15 +111,6 @@ pub fn framed(block: [u8; 512], kind: u8, count: u8, number: u16) -> [u8; 512]
     out[4] = kind;
     out[5] = count;
     out[6..8].copy_from_slice(&number.to_le_bytes());
-    let sums = check_sums(&out);
-    out[508..510].copy_from_slice(&sums.plain.to_le_bytes());
-    out[510..].copy_from_slice(&sums.weighted.to_le_bytes());
+    write_sums(&mut out);
     out
-}
-
-// Where the part of a journal from a place on ends: 512 bytes on, or at the end of the journal.
-pub fn part_end(at: usize, length: usize) -> usize
-    ensures { result ≡ min (at + 512) length }
-{
-    at.saturating_add(512).min(length)
 }

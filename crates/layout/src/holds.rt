@@ -6,13 +6,13 @@ ghost use Rattle.layout.specs.Holds.{holds_of};
 use amounts::decline::Decline;
 
 // The substances and materials, or a stage.
-#[derive(Clone, Copy, Debug, PartialEq, Eq)]
+#[derive(Clone, Copy)]
 pub enum SetupPart {
     Materials,
     Stage,
 }
 
-#[derive(Clone, Copy, Debug, PartialEq, Eq)]
+#[derive(Clone, Copy)]
 pub enum Holds {
     SetUp(SetupPart),
     Posts,

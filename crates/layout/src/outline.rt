@@ -1,7 +1,7 @@
 // How far a book's set-up has come: the counts that turns and limits go by.
 
 // All counts are 0 before any set-up, by which turns are told.
-#[derive(Clone, Copy, Debug, Default, PartialEq, Eq)]
+#[derive(Clone, Copy, Default)]
 pub struct Outline {
     pub substances: u8,
     pub materials: u8,

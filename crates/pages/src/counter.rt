@@ -13,7 +13,7 @@ use post::moves;
 pub const BLOCK_SIZE: usize = 512;
 
 // How far it has come, of so many bytes.
-#[derive(Clone, Copy, Debug)]
+#[derive(Clone, Copy)]
 pub struct Counter {
     pub room: usize,
     pub tally: Tally,
@@ -61,7 +61,6 @@ impl Counter {
         }
     }
 
-    #[tactic(auto, using(crate::proofs::tally::Laws::checked_both), unfolding(amounts::specs::Decline::checked))]
     fn check_set_up(&self, part: SetupPart, count: u8, body: &[u8]) -> Result<(), Decline>
         ensures { result ≡ checked (set_up_checks self.now.room self.now.tally part count body.now) (tt {0}) }
     {
@@ -79,7 +78,6 @@ impl Counter {
     }
 
     // A set-up block of any kind, count and body.
-    #[tactic(auto, using(crate::proofs::tally::Laws::checked_guards), unfolding(crate::specs::Tally::set_up_on, crate::specs::Tally::part_on))]
     pub fn set_up(&mut self, kind: u8, count: u8, body: &[u8]) -> Result<(), Decline>
         ensures room_stays { self.new.room ≡ self.old.room }
         ensures counts { Counts self.old.tally (set_up_on self.old.room self.old.tally kind count body.now) result self.new.tally }

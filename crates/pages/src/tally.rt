@@ -9,7 +9,7 @@ use layout::outline::Outline;
 use plant::setup;
 
 // The outline of the set-up blocks that are written, the posts that wait for their block, and the blocks that are written.
-#[derive(Clone, Copy, Debug, Default, PartialEq, Eq)]
+#[derive(Clone, Copy, Default)]
 pub struct Tally {
     pub outline: Outline,
     pub waiting: u8,

@@ -1,5 +1,5 @@
 -- Kind 1: the substances and the materials (document 01, "Journal blocks"). The body is the block's bytes 8 to 507.
-use Rattle.std.specs.Prelude.{ℕ, zero, suc, ◌+◌, ◌*◌, ◌%◌, ◌≤◌, ◌≡◌, Bool, false, ◌&&◌, List, [], ◌∷◌, eqb, leb, ltb, length, get_or, drop, replicate}
+use Rattle.std.specs.Prelude.{ℕ, zero, suc, ◌+◌, ◌*◌, ◌%◌, ◌≤◌, ◌≡◌, Bool, true, false, ◌&&◌, List, [], ◌∷◌, eqb, leb, ltb, length, get_or, drop, replicate}
 use Rattle.std.specs.List.{list_all}
 use Rattle.amounts.specs.Class.{is_class}
 use Rattle.amounts.specs.Content.{counted_of}
@@ -14,6 +14,11 @@ use Rattle.plant.specs.declared.setup.Pair.{Pair}
 use Rattle.plant.specs.declared.setup.Rates.{Rates}
 use Rattle.plant.specs.declared.setup.Setup.{Setup}
 use Rattle.plant.specs.declared.setup.Stage.{Stage}
+
+-- whether each check of a table passes
+abbrev pub passes : List Check → Bool
+passes [] = true
+passes (check t d ∷ rows) = t && passes rows
 
 -- "8: materials, 1–12. 9: stages, 1–8."
 abbrev pub materials_in : List ℕ → ℕ
@@ -78,9 +83,13 @@ body_checks count body =
     ∷ check (within 1 8 (stages_in body)) Layout
     ∷ substance_checks count body
 
+-- 6, from a body's length on
+abbrev pub setup_limits : ℕ → List ℕ → List Check
+setup_limits count body = check (eqb (length body) 500) Layout ∷ body_checks count body
+
 -- 4, and then 6
 abbrev pub setup_checks : Outline → ℕ → List ℕ → List Check
-setup_checks o count body = check (may_set_up o) OutOfTurn ∷ check (eqb (length body) 500) Layout ∷ body_checks count body
+setup_checks o count body = check (may_set_up o) OutOfTurn ∷ setup_limits count body
 
 -- each material's content of each substance, as it counts
 abbrev pub counted_all : List ℕ → List ℕ → List ℕ

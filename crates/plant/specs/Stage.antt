@@ -76,14 +76,14 @@ stage_body_checks substances body =
     ∷ check (all_zero (drop (2 + substances * 17) body)) Layout
     ∷ []
 
--- 4, and then 6; no outline of a book has more than eight substances or stages
+-- 6; no outline of a book has more than eight substances or stages
+abbrev pub stage_limits : Outline → List ℕ → List Check
+stage_limits o body =
+    check (eqb (length body) 500) Layout ∷ check (leb o.substances 8) Layout ∷ check (leb o.stages 8) Layout ∷ stage_body_checks o.substances body
+
+-- 4, and then 6
 abbrev pub stage_checks : Outline → ℕ → List ℕ → List Check
-stage_checks o stage body =
-    check (may_describe o stage) OutOfTurn
-    ∷ check (eqb (length body) 500) Layout
-    ∷ check (leb o.substances 8) Layout
-    ∷ check (leb o.stages 8) Layout
-    ∷ stage_body_checks o.substances body
+stage_checks o stage body = check (may_describe o stage) OutOfTurn ∷ stage_limits o body
 
 -- ---- kind 2 on a set-up: its next stage described
 

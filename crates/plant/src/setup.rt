@@ -2,8 +2,8 @@
 ghost use Rattle.std.specs.Prelude.{◌≡◌, ◌<◌};
 ghost use Rattle.amounts.specs.Content.{counted_of};
 ghost use Rattle.amounts.specs.Decline.{checked, value_or, verdict_of};
-ghost use Rattle.plant.specs.Setup.{outline_of, fresh_setup, setup_of, set_up_on};
-ghost use Rattle.plant.specs.Setup.{before, rising, all_classes, row_sum, row_fits, rows_fit, material_checks, substance_checks, body_checks, setup_checks};
+ghost use Rattle.plant.specs.Setup.{outline_of, numbers_in, classes_in, contents_in, counted_all, fresh_setup, setup_of, set_up_on};
+ghost use Rattle.plant.specs.Setup.{before, rising, all_classes, row_sum, row_fits, rows_fit, passes, material_checks, substance_checks, setup_limits, setup_checks};
 
 use amounts::class::Class;
 use amounts::content;
@@ -14,7 +14,7 @@ use layout::outline::Outline;
 use std::array;
 
 // Of the gas and of the waste water.
-#[derive(Clone, Copy, Debug, Default, PartialEq, Eq)]
+#[derive(Clone, Copy, Default)]
 pub struct Rates {
     pub gas: Rate,
     pub water: Rate,
@@ -22,14 +22,14 @@ pub struct Rates {
 
 // Where a stage's treated water goes, to the sewer or to public water, and its residues, to landfill or off site. These and a pair's side are flags, since one
 // reading of two cases serves all three, and an enum for each would need a reading of its own.
-#[derive(Clone, Copy, Debug, Default, PartialEq, Eq)]
+#[derive(Clone, Copy, Default)]
 pub struct Stage {
     pub to_sewer: bool,
     pub to_landfill: bool,
 }
 
 // A pair of a stage and a substance: its side, water or gas, and its rates.
-#[derive(Clone, Copy, Debug, Default, PartialEq, Eq)]
+#[derive(Clone, Copy, Default)]
 pub struct Pair {
     pub to_water: bool,
     pub rates: Rates,
@@ -99,50 +99,36 @@ fn counted_or_none(class: u8, ppm: u32) -> u32
     content::counted_content(class, ppm).unwrap_or(0)
 }
 
-#[tactic(auto, unfolding(amounts::specs::Decline::checked))]
-fn check_materials(count: u8, body: &[u8]) -> Result<(), Decline>
-    ensures { result ≡ checked (material_checks count body.now) (tt {0}) }
+// The materials' rows, and zeros behind them.
+fn materials_fit(count: u8, body: &[u8]) -> bool
+    ensures { result ≡ passes (material_checks count body.now) }
 {
     let materials = bytes::byte_at(body, 0);
-    check(
-        rows_fit(bytes::tail(body, 26), materials, count),
-        Decline::Layout,
-    )?;
-    check(
-        bytes::zero_from(body, 26 + usize::from(materials) * 32),
-        Decline::Layout,
-    )
+    rows_fit(bytes::tail(body, 26), materials, count)
+        && bytes::zero_from(body, 26 + usize::from(materials) * 32)
 }
 
-#[tactic(auto, unfolding(amounts::specs::Decline::checked))]
-fn check_substances(count: u8, body: &[u8]) -> Result<(), Decline>
-    ensures { result ≡ checked (substance_checks count body.now) (tt {0}) }
+// The substances' numbers and classes, each with zeros behind them, and the materials.
+fn substances_fit(count: u8, body: &[u8]) -> bool
+    ensures { result ≡ passes (substance_checks count body.now) }
 {
     let n = usize::from(count);
-    check(is_rising(bytes::tail(body, 2), count), Decline::Layout)?;
-    check(bytes::zero_between(body, 2 + n * 2, 18), Decline::Layout)?;
-    check(
-        all_classes(bytes::between(body, 18, 18 + n)),
-        Decline::Layout,
-    )?;
-    check(bytes::zero_between(body, 18 + n, 26), Decline::Layout)?;
-    check_materials(count, body)
+    is_rising(bytes::tail(body, 2), count)
+        && bytes::zero_between(body, 2 + n * 2, 18)
+        && all_classes(bytes::between(body, 18, 18 + n))
+        && bytes::zero_between(body, 18 + n, 26)
+        && materials_fit(count, body)
 }
 
-#[tactic(auto, unfolding(amounts::specs::Decline::checked))]
-fn check_body(count: u8, body: &[u8]) -> Result<(), Decline>
-    ensures { result ≡ checked (body_checks count body.now) (tt {0}) }
+// Whether a body is within its limits. One that isn't breaks the layout.
+fn is_within_limits(count: u8, body: &[u8]) -> bool
+    ensures { result ≡ passes (setup_limits count body.now) }
 {
-    check(bytes::is_within(1, 8, count), Decline::Layout)?;
-    check(
-        bytes::is_within(1, 12, bytes::byte_at(body, 0)),
-        Decline::Layout,
-    )?;
-    check(
-        bytes::is_within(1, 8, bytes::byte_at(body, 1)),
-        Decline::Layout,
-    )?;
-    check_substances(count, body)
+    body.len() == 500
+        && bytes::is_within(1, 8, count)
+        && bytes::is_within(1, 12, bytes::byte_at(body, 0))
+        && bytes::is_within(1, 8, bytes::byte_at(body, 1))
+        && substances_fit(count, body)
 }
 
 // Whether a kind 1 block's body is in its turn and within its limits, by the outline, which is `layout`'s, and the bytes alone. A block's count and body go
@@ -152,8 +138,7 @@ pub fn check_setup(o: Outline, count: u8, body: &[u8]) -> Result<(), Decline>
     ensures { result ≡ checked (setup_checks o count body.now) (tt {0}) }
 {
     check(o.may_set_up(), Decline::OutOfTurn)?;
-    check(body.len() == 500, Decline::Layout)?;
-    check_body(count, body)
+    check(is_within_limits(count, body), Decline::Layout)
 }
 
 // How far a kind 1 block's body brings the set-up.
@@ -166,6 +151,27 @@ pub fn outline_of(count: u8, body: &[u8]) -> Outline
         stages: bytes::byte_at(body, 1),
         described: 0,
     }
+}
+
+// The eight management numbers.
+fn numbers_in(body: &[u8]) -> [u16; 8]
+    ensures { result ≡ numbers_in body.now }
+{
+    array::from_fn(|i| bytes::le16(body, 2 + i * 2))
+}
+
+// The eight classes, by their numbers.
+fn classes_in(body: &[u8]) -> [u8; 8]
+    ensures { result ≡ classes_in body.now }
+{
+    array::from_fn(|i| bytes::byte_at(body, 18 + i))
+}
+
+// Each material's content of each substance, as it counts by the substance's class.
+fn counted_in(classes: &[u8; 8], body: &[u8]) -> [u32; 96]
+    ensures { result ≡ counted_all classes.now (contents_in body.now) }
+{
+    array::from_fn(|i| counted_or_none(classes[i % 8], bytes::le32(body, 26 + i * 4)))
 }
 
 impl Setup {
@@ -187,19 +193,18 @@ impl Setup {
     pub fn parse(count: u8, body: &[u8]) -> Setup
         ensures { result ≡ setup_of count body.now }
     {
-        let classes: [u8; 8] = array::from_fn(|i| bytes::byte_at(body, 18 + i));
-        let contents: [u32; 96] = array::from_fn(|i| bytes::le32(body, 26 + i * 4));
+        let classes = classes_in(body);
         Setup {
             outline: outline_of(count, body),
-            numbers: array::from_fn(|i| bytes::le16(body, 2 + i * 2)),
+            numbers: numbers_in(body),
             classes,
-            counted: array::from_fn(|i| counted_or_none(classes[i % 8], contents[i])),
+            counted: counted_in(&classes, body),
             ..Setup::new()
         }
     }
 
     // The substances and materials of a kind 1 block.
-    #[tactic(auto, using(crate::proofs::setup::Laws::set_up_declined, crate::proofs::setup::Laws::set_up_taken))]
+    #[tactic(auto, using(crate::proofs::setup::Laws::set_up_declined))]
     pub fn set_up(&mut self, count: u8, body: &[u8]) -> Result<(), Decline>
         ensures verdict { result ≡ verdict_of (set_up_on self.old count body.now) }
         ensures setup { self.new ≡ value_or self.old (set_up_on self.old count body.now) }

@@ -1,8 +1,10 @@
 // Kind 2: what a body says of a stage's destinations and of each substance's side and rates, its limits, and the set-up with that stage described.
-ghost use Rattle.std.specs.Prelude.{◌≡◌, false, ◌≤◌, ◌<◌, length, drop, get_or};
-ghost use Rattle.amounts.specs.Decline.{checked, value_or, verdict_of};
-ghost use Rattle.plant.specs.Stage.{second_of, stage_of, with_stage, described_on};
-ghost use Rattle.plant.specs.Stage.{rates_at, pair_of, pair_fits, all_pairs_fit, stage_body_checks, stage_checks};
+ghost use Rattle.std.specs.Prelude.{◌≡◌, false, ◌&&◌, ◌+◌, ◌*◌, ◌≤◌, ◌<◌, length, drop, get_or};
+ghost use Rattle.amounts.specs.Decline.{is_taken, checked, value_or, verdict_of};
+ghost use Rattle.encoding.specs.Bytes.{all_zero};
+ghost use Rattle.plant.specs.Setup.{passes};
+ghost use Rattle.plant.specs.Stage.{second_of, water_in, residue_in, stage_of, with_stage, described_on};
+ghost use Rattle.plant.specs.Stage.{rates_at, pair_of, pair_fits, all_pairs_fit, stage_limits, stage_checks};
 
 use crate::setup::{Pair, Rates, Setup, Stage};
 use amounts::decline::{Decline, check};
@@ -22,7 +24,14 @@ fn second_of(byte: u8) -> Result<bool, Decline>
     }
 }
 
-// The same, where a byte that names neither counts as the first.
+// Whether a byte names one of the two.
+fn is_named(byte: u8) -> bool
+    ensures { result ≡ is_taken (second_of byte) }
+{
+    second_of(byte).is_ok()
+}
+
+// Which of the two, where a byte that names neither counts as the first.
 pub fn is_second(byte: u8) -> bool
     ensures { result ≡ value_or false (second_of byte) }
 {
@@ -70,7 +79,7 @@ fn stage_of(body: &[u8]) -> Stage
 fn pair_fits(side: u8, r: Rates) -> bool
     ensures { result ≡ pair_fits (second_of side) r }
 {
-    second_of(side).is_ok() && r.gas.is_valid() && r.water.is_valid()
+    is_named(side) && r.gas.is_valid() && r.water.is_valid()
 }
 
 fn all_pairs_fit(s: &[u8], n: u8) -> bool
@@ -79,20 +88,30 @@ fn all_pairs_fit(s: &[u8], n: u8) -> bool
     (0..usize::from(n)).all(|i| pair_fits(bytes::byte_at(s, i * 17), rates_at(s, i * 17)))
 }
 
-#[tactic(auto, using(crate::proofs::stage::Laws::second_declines), unfolding(amounts::specs::Decline::checked))]
-fn check_body(substances: u8, body: &[u8]) -> Result<(), Decline>
-    ensures { result ≡ checked (stage_body_checks substances body.now) (tt {0}) }
+// Whether a body's first two bytes name where the stage's water and its residues go.
+fn head_fits(body: &[u8]) -> bool
+    ensures { result ≡ (is_taken (water_in body.now) && is_taken (residue_in body.now)) }
 {
-    second_of(bytes::byte_at(body, 0))?;
-    second_of(bytes::byte_at(body, 1))?;
-    check(
-        all_pairs_fit(bytes::tail(body, 2), substances),
-        Decline::Layout,
-    )?;
-    check(
-        bytes::zero_from(body, 2 + usize::from(substances) * 17),
-        Decline::Layout,
-    )
+    is_named(bytes::byte_at(body, 0)) && is_named(bytes::byte_at(body, 1))
+}
+
+// Whether a body's pairs fit, and the bytes behind them are zero.
+fn rest_fits(substances: u8, body: &[u8]) -> bool
+    ensures { result ≡ (all_pairs_fit substances (drop 2 body.now) && all_zero (drop (2 + substances * 17) body.now)) }
+{
+    all_pairs_fit(bytes::tail(body, 2), substances)
+        && bytes::zero_from(body, 2 + usize::from(substances) * 17)
+}
+
+// Whether a body is within its limits. One that isn't breaks the layout.
+fn is_within_limits(o: Outline, body: &[u8]) -> bool
+    ensures { result ≡ passes (stage_limits o body.now) }
+{
+    body.len() == 500
+        && o.substances <= 8
+        && o.stages <= 8
+        && head_fits(body)
+        && rest_fits(o.substances, body)
 }
 
 // Whether a kind 2 block's body is in its turn and within its limits, by the outline, which is `layout`'s, and the bytes alone.
@@ -101,10 +120,7 @@ pub fn check_stage(o: Outline, stage: u8, body: &[u8]) -> Result<(), Decline>
     ensures { result ≡ checked (stage_checks o stage body.now) (tt {0}) }
 {
     check(o.may_describe(stage), Decline::OutOfTurn)?;
-    check(body.len() == 500, Decline::Layout)?;
-    check(o.substances <= 8, Decline::Layout)?;
-    check(o.stages <= 8, Decline::Layout)?;
-    check_body(o.substances, body)
+    check(is_within_limits(o, body), Decline::Layout)
 }
 
 impl Setup {
@@ -124,7 +140,6 @@ impl Setup {
     }
 
     // One stage more, described by a kind 2 block.
-    #[tactic(auto, unfolding(crate::specs::Stage::described_on))]
     pub fn describe(&mut self, stage: u8, body: &[u8]) -> Result<(), Decline>
         ensures verdict { result ≡ verdict_of (described_on self.old stage body.now) }
         ensures setup { self.new ≡ value_or self.old (described_on self.old stage body.now) }

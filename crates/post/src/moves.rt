@@ -21,7 +21,7 @@ use losses::loss;
 // Received into a store; issued from a store to a stage's holdings; brought to an account from outside; gone from a holding to an
 // account; the close. Grams of a material, micrograms of a substance. What is brought and what is gone have the same fields: one struct for both would be taken apart
 // at each match.
-#[derive(Clone, Copy, Debug, PartialEq, Eq)]
+#[derive(Clone, Copy)]
 pub enum Move {
     Received {
         material: usize,
@@ -142,7 +142,6 @@ impl Laid {
 }
 
 // The post that bytes lay out, by an outline: declined by 6.
-#[tactic(auto, using(crate::proofs::moves::Laws::laid_read, std::proofs::lemmas::Grind::common_steps))]
 fn read_post(o: Outline, s: &[u8]) -> Result<Laid, Decline>
     ensures { result ≡ laid_of (post_at s.now) (laid_out o s.now) }
 {
@@ -158,7 +157,6 @@ fn read_post(o: Outline, s: &[u8]) -> Result<Laid, Decline>
 }
 
 // Whether the bytes of a post are well formed, by an outline, which is `layout`'s: declined by 6 and 7, which need no book.
-#[tactic(auto, unfolding(amounts::specs::Decline::checked, crate::specs::Moves::well_formed))]
 pub fn check_post(o: Outline, s: &[u8]) -> Result<(), Decline>
     ensures { result ≡ verdict_of (well_formed o s.now) }
 {
@@ -167,7 +165,6 @@ pub fn check_post(o: Outline, s: &[u8]) -> Result<(), Decline>
 }
 
 // What the bytes of a post move, by an outline and the management numbers: declined by 6 to 9.
-#[tactic(auto, using(crate::proofs::moves::Laws::move_read, crate::proofs::moves::Laws::product_fits))]
 pub fn read_move(o: Outline, numbers: &[u16], s: &[u8]) -> Result<Move, Decline>
     ensures { result ≡ move_at o numbers.now s.now }
 {

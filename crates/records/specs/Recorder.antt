@@ -3,6 +3,7 @@ use Rattle.std.specs.Prelude.{ℕ, ◌*◌, ◌≡◌, List, length, Result, Ok}
 use Rattle.amounts.specs.Decline.{value_or, verdict_of, Answer}
 use Rattle.pages.specs.Page.{Page, ended}
 use Rattle.pages.specs.declared.tally.Tally.{Tally}
+use Rattle.pages.specs.declared.counter.Counter.{Counter}
 use Rattle.records.specs.Records.{records_in}
 use Rattle.records.specs.Batch.{write_all, end_of}
 use Rattle.records.specs.declared.batch.Stopped.{Stopped}
@@ -12,6 +13,10 @@ pub record Reached (room : ℕ) (t : Tally) (p : Page) : Type 0 where
   pub long : length p.bytes ≡ room
   pub tally : p.draft.tally ≡ t
   pub filled : p.filled ≡ t.blocks * 512
+
+-- the pages that a counter stands for
+unfoldable pub StandsFor : Counter → Page → Type 0
+StandsFor counter p = Reached counter.room counter.tally p
 
 -- an end is always taken
 abbrev pub ends : Page → Answer Page

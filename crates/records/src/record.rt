@@ -1,5 +1,6 @@
 // The records of bytes: each a tag byte, a length in 16 bits, and that many bytes.
 ghost use Rattle.std.specs.Prelude.{◌≡◌};
+ghost use Rattle.records.specs.Records.{span_of, IsFirst};
 
 use crate::refusal::Refusal;
 use encoding::bytes;
@@ -36,20 +37,34 @@ impl<'a> Iterator for Records<'a> {
 
     ghost remaining = { λ records. at_most (length records.rest.now) };
 
-    #[tactic(auto, using(crate::proofs::record::Laws::first_short, crate::proofs::record::Laws::first_complete))]
     fn next(&mut self) -> Option<Result<Record<'a>, Refusal>> {
-        let rest = self.rest;
-        let tag = *rest.first()?;
-
-        // How many bytes the record takes, its tag and length with it.
-        let span = 3 + usize::from(bytes::le16(rest, 1));
-        self.rest = bytes::tail(rest, span);
-        if span > rest.len() {
-            return Some(Err(Refusal::Malformed));
+        if self.rest.is_empty() {
+            return None;
         }
-        Some(Ok(Record {
-            tag,
-            body: bytes::between(rest, 3, span),
-        }))
+        let first = first_of(self.rest);
+        self.rest = bytes::tail(self.rest, span_of(self.rest));
+        Some(first)
     }
+}
+
+// How many bytes the first record takes, its tag and length with it.
+fn span_of(s: &[u8]) -> usize
+    ensures { result ≡ span_of s.now }
+{
+    3 + usize::from(bytes::le16(s, 1))
+}
+
+// The first record, where it is there as a whole.
+#[tactic(auto, using(crate::proofs::record::Laws::first_short, crate::proofs::record::Laws::first_complete))]
+fn first_of(s: &[u8]) -> Result<Record<'_>, Refusal>
+    ensures { IsFirst s.now result }
+{
+    let span = span_of(s);
+    if span > s.len() {
+        return Err(Refusal::Malformed);
+    }
+    Ok(Record {
+        tag: bytes::byte_at(s, 0),
+        body: bytes::between(s, 3, span),
+    })
 }

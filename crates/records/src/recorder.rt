@@ -1,7 +1,7 @@
 // What takes a writer's calls: a writer, or a counter that answers as a writer does.
 ghost use Rattle.std.specs.Prelude.{◌≡◌, ℕ, Ok};
 ghost use Rattle.pages.specs.Page.{Page, set_up_on, post_on};
-ghost use Rattle.records.specs.Recorder.{Follows, ends, Reached};
+ghost use Rattle.records.specs.Recorder.{Follows, ends, StandsFor};
 ghost use Rattle.writer.specs.Writer.{page};
 
 use amounts::decline::Decline;
@@ -29,7 +29,7 @@ pub trait Recorder {
 
 // Each call is the counter's own, and below the writer's: the trait asks for them by name.
 impl Recorder for Counter {
-    ghost is_at = { λ counter p. Reached counter.room counter.tally p };
+    ghost is_at = { StandsFor };
 
     ghost lent = { λ _. 0 };
 

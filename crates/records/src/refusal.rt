@@ -44,8 +44,8 @@ impl fmt::Display for Refusal {
 
     fn fmt<W: fmt::Write>(&self, f: &mut fmt::Formatter<W>) -> fmt::Result {
         match self {
-            Refusal::Declined(decline) => write!(f, "{decline}"),
-            Refusal::Malformed => write!(f, "malformed"),
+            Refusal::Declined(decline) => fmt::Display::fmt(decline, f),
+            Refusal::Malformed => f.write_str("malformed"),
         }
     }
 }

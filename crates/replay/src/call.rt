@@ -8,7 +8,7 @@ use std::io::Write;
 use stock::sheet::difference_of;
 use streams::record::Record;
 
-#[derive(Clone, Copy, Debug, PartialEq, Eq)]
+#[derive(Clone, Copy)]
 pub(crate) enum Call<'a> {
     Post(&'a [u8]),
     Block(&'a [u8]),

@@ -1,5 +1,5 @@
 -- What only follows the code's steps, which add up the stages' fates one by one. No promise rests on it.
-use Rattle.std.specs.Prelude.{ℕ, ◌+◌}
+use Rattle.std.specs.Prelude.{◌+◌}
 use Rattle.report.specs.declared.fate.Headings.{Headings}
 use Rattle.report.specs.declared.fate.Fate.{Fate}
 
@@ -35,12 +35,3 @@ add_fates x y =
       destroyed = x.destroyed + y.destroyed;
       headings = add_headings x.headings y.headings;
     }
-
--- each heading of y is related to that of x
-pub record EachHeading (R : ℕ → ℕ → Type 0) (x y : Headings) : Type 0 where
-  pub air : R x.air y.air
-  pub water : R x.water y.water
-  pub soil : R x.soil y.soil
-  pub land : R x.land y.land
-  pub sewer : R x.sewer y.sewer
-  pub offsite : R x.offsite y.offsite

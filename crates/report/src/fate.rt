@@ -1,9 +1,11 @@
 // The fate of a substance: what a report shows of it but the store, at a stage and over all stages.
 ghost use Rattle.std.specs.Prelude.{◌≡◌, ◌^◌, ◌≤◌, ◌<◌};
 ghost use Rattle.amounts.specs.Treatment.{parts_of};
+ghost use Rattle.book.specs.Ledger.{cell};
 ghost use Rattle.book.specs.Site.{Sound};
 ghost use Rattle.report.specs.Fate.{to_sewer, to_public_water, cells_of, fate_from, stage_fate, fate_to, weigh};
 
+use amounts::filed::filed_figure;
 use amounts::treatment::{Parts, Rate, split_total};
 use book::site::{Book, Year};
 use kinds::account::Account;
@@ -11,7 +13,7 @@ use plant::setup::Stage;
 use std::fmt;
 
 // What is released under the six headings of a return, in micrograms.
-#[derive(Clone, Copy, Debug, Default, PartialEq, Eq)]
+#[derive(Clone, Copy, Default)]
 pub struct Headings {
     pub air: u64,
     pub water: u64,
@@ -23,21 +25,21 @@ pub struct Headings {
 
 impl Headings {
     ghost use Rattle.std.specs.Prelude.{◌≡◌, ◌+◌, ◌^◌, ◌<◌};
-    ghost use Rattle.report.specs.Fate.{six_of};
-    ghost use Rattle.report.specs.Steps.{EachHeading, add_headings};
+    ghost use Rattle.amounts.specs.Filed.{filed_of};
+    ghost use Rattle.report.specs.Fate.{six_of, map_headings};
+    ghost use Rattle.report.specs.Steps.{add_headings};
 
-    // Each heading through a function.
-    pub(crate) fn map<F: Fn(u64) -> u64>(self, f: F) -> Headings
-        requires { F.IsAlwaysCallable f }
-        ensures { EachHeading (F.post f) self result }
+    // Each heading by its filed figure.
+    pub(crate) fn filed(self) -> Headings
+        ensures { result ≡ map_headings filed_of self }
     {
         Headings {
-            air: f(self.air),
-            water: f(self.water),
-            soil: f(self.soil),
-            land: f(self.land),
-            sewer: f(self.sewer),
-            offsite: f(self.offsite),
+            air: filed_figure(self.air),
+            water: filed_figure(self.water),
+            soil: filed_figure(self.soil),
+            land: filed_figure(self.land),
+            sewer: filed_figure(self.sewer),
+            offsite: filed_figure(self.offsite),
         }
     }
 
@@ -79,7 +81,7 @@ impl fmt::Display for Headings {
 }
 
 // What a report shows of a substance but the store, in micrograms.
-#[derive(Clone, Copy, Debug, Default, PartialEq, Eq)]
+#[derive(Clone, Copy, Default)]
 pub struct Fate {
     pub held: u64,
     pub shipped: u64,
@@ -122,23 +124,30 @@ struct Cells {
     vapour: u64,
 }
 
-// The place is worked out as in `book::ledger`, whose own function asks that it is there and so is private to its crate.
+// A year's sum under an account, of a stage and a substance. The place is worked out as in `book::ledger`, whose own function asks that it is there and so is private to
+// its crate.
+#[tactic(auto, using(kinds::proofs::account::Laws::place_few))]
+fn cell(year: &Year, account: Account, stage: usize, s: usize) -> u64
+    requires { (stage < 8) × (s < 8) }
+    ensures { result ≡ cell year.now.sums account stage s }
+{
+    year.sums[account as usize * 64 + (stage * 8 + s)]
+}
+
 fn cells_of(year: &Year, stage: usize, s: usize) -> Cells
     requires { (stage < 8) × (s < 8) }
     ensures { result ≡ cells_of year.now.sums stage s }
 {
-    let pair = stage * 8 + s;
-    let cell = |account: Account| year.sums[account as usize * 64 + pair];
     Cells {
-        held: cell(Account::Held),
-        shipped: cell(Account::Shipped),
-        off_site: cell(Account::OffSite),
-        landfill: cell(Account::Landfill),
-        soil: cell(Account::Soil),
-        consumed: cell(Account::Consumed),
-        gas: cell(Account::Gas),
-        water: cell(Account::Water),
-        vapour: cell(Account::Vapour),
+        held: cell(year, Account::Held, stage, s),
+        shipped: cell(year, Account::Shipped, stage, s),
+        off_site: cell(year, Account::OffSite, stage, s),
+        landfill: cell(year, Account::Landfill, stage, s),
+        soil: cell(year, Account::Soil, stage, s),
+        consumed: cell(year, Account::Consumed, stage, s),
+        gas: cell(year, Account::Gas, stage, s),
+        water: cell(year, Account::Water, stage, s),
+        vapour: cell(year, Account::Vapour, stage, s),
     }
 }
 
@@ -184,7 +193,6 @@ fn fate_from(c: Cells, gas: Parts, water: Parts, sewered: bool, landfilled: bool
 }
 
 // The rates of a book's set-up are within the whole, and no heading passes 64 bits, since the book is sound.
-#[tactic(auto, using(crate::proofs::fate::Laws::rates_fit, crate::proofs::fate::Laws::stage_fits))]
 fn stage_fate(b: &Book, s: usize, stage: usize) -> Fate
     requires { (stage < 8) × (s < 8) }
     ensures value { result ≡ stage_fate b.now.year.sums b.now.setup s stage }
@@ -203,7 +211,7 @@ fn stage_fate(b: &Book, s: usize, stage: usize) -> Fate
 }
 
 // Over all stages, added up.
-#[tactic(auto, using(crate::proofs::fate::Laws::fate_none, crate::proofs::fate::Laws::fate_more, crate::proofs::fate::Laws::fates_fit))]
+#[tactic(auto, using(crate::proofs::fate::Laws::fate_none))]
 pub(crate) fn fate_to(b: &Book, s: usize) -> Fate
     requires { s < 8 }
     ensures { result ≡ fate_to b.now.year.sums b.now.setup s 8 }

@@ -5,13 +5,12 @@ ghost use Rattle.report.specs.Report.{filing_of, report_at, report_of};
 
 use crate::fate::{Fate, Headings, fate_to};
 use amounts::decline::{Decline, check};
-use amounts::filed::filed_figure;
 use amounts::threshold::is_due;
 use book::site::Book;
 
 // Amounts are in micrograms. That a substance is due stands beside its filed figures, which only such a one has, since a report says both; read off the figures, it
 // would be no plainer.
-#[derive(Clone, Copy, Debug, PartialEq, Eq)]
+#[derive(Clone, Copy)]
 pub struct Report {
     pub posts: u32,
     pub number: u16,
@@ -23,7 +22,6 @@ pub struct Report {
 }
 
 // The store of a substance, by the counted contents.
-#[tactic(auto, using(crate::proofs::report::Laws::stored_le, encoding::proofs::Each::sum_again), unfolding(encoding::specs::Each::sum_to))]
 fn stored_of(store: &[u64; 12], counted: &[u32; 96], s: usize) -> u64
     requires { (s < 8) × (stored_to store.now counted.now s 12 < 2 ^ 64) }
     ensures { result ≡ stored_to store.now counted.now s 12 }
@@ -39,7 +37,7 @@ fn stored_of(store: &[u64; 12], counted: &[u32; 96], s: usize) -> u64
 fn filing_of(due: bool, headings: Headings) -> Option<Headings>
     ensures { result ≡ filing_of due headings }
 {
-    due.then(|| headings.map(filed_figure))
+    if due { Some(headings.filed()) } else { None }
 }
 
 // The report of a substance that the book has.

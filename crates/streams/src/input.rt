@@ -1,14 +1,14 @@
 // An input, a part at a time.
-ghost use Rattle.std.specs.Prelude.{◌≡◌, ◌-◌, IsErr};
+ghost use Rattle.std.specs.Prelude.{◌≡◌, ◌-◌, ◌↔◌, IsErr, IsTrue};
 ghost use Rattle.std.specs.Io.{ReadsAtMost};
 ghost use Rattle.std.specs.Io.KnownBytes.{ReadConsumes};
-ghost use Rattle.streams.specs.Input.{Retried, PartTook, most_parts, parts_left, reader_of, bytes_left};
+ghost use Rattle.streams.specs.Input.{IsInterrupted, Retried, PartTook, most_parts, parts_left, reader_of, bytes_left};
 
 use std::io;
 use std::io::{ErrorKind, Read};
 
 /// An input, and how many parts may still be asked for: a program ends, and nothing says that its input does.
-#[derive(Debug, Drop)]
+#[derive(Drop)]
 pub struct Input<R> {
     from: R,
     left: u64,
@@ -42,6 +42,13 @@ impl<R: Read> Input<R> {
 /// How often a call that a signal interrupts is made.
 const TRIES: u32 = 100;
 
+/// Whether a signal interrupted the call that gave this error.
+fn is_interrupted(e: &io::Error) -> bool
+    ensures { IsTrue result ↔ IsInterrupted e.now }
+{
+    e.kind() == ErrorKind::Interrupted
+}
+
 /// A call, made again where a signal interrupted it.
 fn retry<T, F: FnMut() -> io::Result<T>>(call: &mut F) -> io::Result<T>
     requires { F.IsAlwaysCallable call.old }
@@ -49,7 +56,7 @@ fn retry<T, F: FnMut() -> io::Result<T>>(call: &mut F) -> io::Result<T>
 {
     for _made in 1..TRIES {
         match call() {
-            Err(e) if e.kind() == ErrorKind::Interrupted => {}
+            Err(e) if is_interrupted(&e) => {}
             answer => return answer,
         }
     }

@@ -8,7 +8,7 @@ use std::io;
 use std::io::{ErrorKind, Write};
 
 /// A flag, and not an `Option` of the writer: what is known of a writer's bytes stays known behind a failure.
-#[derive(Debug, Drop)]
+#[derive(Drop)]
 pub struct Output<W> {
     to: W,
     has_failed: bool,

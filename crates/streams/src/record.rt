@@ -7,14 +7,14 @@ use crate::input::Input;
 use std::io;
 use std::io::Read;
 
-#[derive(Clone, Copy, Debug, PartialEq, Eq)]
+#[derive(Clone, Copy)]
 pub struct Record<'a> {
     pub tag: u8,
     pub body: &'a [u8],
 }
 
 /// Why there is no record where the input isn't at its end.
-#[derive(Debug, Drop)]
+#[derive(Drop)]
 pub enum RecordError {
     /// It is cut short, or its body is longer than the space that was lent.
     Malformed,

@@ -3,7 +3,7 @@ use std::error::Error;
 use std::fmt;
 
 /// Which of a program's streams failed. Its text is what the line on standard error says.
-#[derive(Clone, Copy, Debug, PartialEq, Eq)]
+#[derive(Clone, Copy, Debug)]
 pub enum Trouble {
     Unread,
     Unwritten,

@@ -2,7 +2,7 @@
 use Rattle.std.specs.Prelude.{ℕ, Bool, true, false, List, [], ◌∷◌, ◌++◌, Option, Some, None}
 use Rattle.report.specs.declared.fate.Headings.{Headings}
 use Rattle.report.specs.declared.report.Report.{Report}
-use Rattle.text.specs.Number.{space, digits_to, decimal, figure_text}
+use Rattle.text.specs.Number.{space, decimal, figure_text}
 
 -- "Each line ends with a line feed"
 abbrev pub line_feed : ℕ
@@ -24,12 +24,10 @@ yes_no false = 78
 
 -- "per substance in the book's order: number, handled in micrograms, Y or N for due, six figures or `-` each"
 unfoldable pub line_text : Report → List ℕ
-unfolding digits_to figure_text
 line_text r =
     decimal r.number ++ ((space ∷ decimal r.handled) ++ ((space ∷ yes_no r.due ∷ []) ++ (filing_text r.filed ++ (line_feed ∷ []))))
 
 -- "`refused`, the block's place from 0 and the number"
 unfoldable pub refused_text : ℕ → ℕ → List ℕ
-unfolding digits_to
 refused_text place number =
     (114 ∷ 101 ∷ 102 ∷ 117 ∷ 115 ∷ 101 ∷ 100 ∷ []) ++ ((space ∷ decimal place) ++ ((space ∷ decimal number) ++ (line_feed ∷ [])))

@@ -19,5 +19,4 @@ decimal x = digits_to 19 x
 
 -- "Figures under 10 kg print with one decimal, others whole": a figure is in micrograms
 unfoldable pub figure_text : ℕ → List ℕ
-unfolding digits_to
 figure_text f = cond (ltb f (10 ^ 10)) (decimal (f / 10 ^ 9) ++ (46 ∷ digit (f / 10 ^ 8 % 10) ∷ [])) (decimal (f / 10 ^ 9))

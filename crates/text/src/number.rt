@@ -29,7 +29,6 @@ pub(crate) fn push_field(text: &mut Text, x: u64)
 }
 
 // A figure in kilograms, behind a space: whole, but with one decimal under 10 kg.
-#[tactic(auto, using(crate::proofs::number::Laws::decimal_small, crate::proofs::number::Laws::decimal_short), unfolding(crate::specs::Number::figure_text))]
 pub(crate) fn push_figure(text: &mut Text, figure: u64)
     requires { length text.old.items + 23 ≤ most_bytes }
     ensures text { text.new.items ≡ text.old.items ++ (space ∷ figure_text figure) }

@@ -44,10 +44,15 @@ premise_met = (rw writer_takes.0 book_takes_met.0, book_takes_met.1.0)
 
 -- ---- the premise not met
 
--- a fresh book declines the issue, alone and in the journal
-declined_unmet : (all_taken fresh_book (singly 0 unmet) ≡ Err Short) × (read_all fresh_book 0 (parts_in (joined (blocks_of (unmet ++ (end ∷ []))))) ≡ Err (refused 2 Short))
-unfolding unmet all_taken singly joined blocks_of parts_to read_all block_on single_on described_on set_up_on posts_on le sum_to all_to list_to put_to second_of rates_at counted_of post_at measured in_range ieee.of_bits ieee.round ieee.le
-declined_unmet = (refl, refl)
+-- a fresh book declines the issue, alone
+declined_alone : all_taken fresh_book (singly 0 unmet) ≡ Err Short
+unfolding unmet all_taken singly block_on single_on described_on set_up_on le sum_to all_to second_of rates_at counted_of post_at measured in_range ieee.of_bits ieee.round ieee.le
+declined_alone = refl
+
+-- and in the journal
+declined_written : read_all fresh_book 0 (parts_in (joined (blocks_of (unmet ++ (end ∷ []))))) ≡ Err (refused 2 Short)
+unfolding unmet joined blocks_of parts_to read_all block_on described_on set_up_on posts_on le sum_to all_to second_of rates_at counted_of post_at measured in_range ieee.of_bits ieee.round ieee.le
+declined_written = refl
 
 pub premise_needed : PremiseNeeded
-premise_needed = rw writer_takes.1 declined_unmet
+premise_needed = rw writer_takes.1 (declined_alone, declined_written)

@@ -17,7 +17,7 @@ use Rattle.amounts.specs.declared.decline.Decline.{Decline}
 use Rattle.layout.specs.Outline.{may_post}
 use Rattle.layout.specs.Posts.{post_in, own_checks}
 use Rattle.plant.specs.declared.setup.Setup.{Setup}
-use Rattle.amounts.proofs.decline.Laws.{was_taken, passed, pass_taken}
+use Rattle.amounts.proofs.decline.Laws.{was_taken, passed, pass_taken, declines}
 use Rattle.layout.proofs.posts.Laws.{Owned, owned}
 use Rattle.post.specs.Moves.{move_at}
 use Rattle.post.specs.declared.moves.Move.{Move}
@@ -197,10 +197,22 @@ module _ (u : Setup) (y : Year) (count : ℕ) (body : List ℕ) where
   unfolding posts_on
   own_taken e = rw e
 
+  -- a block that its own bytes decline
+  pub own_declined : (n : Decline) → Err n ≡ checked (own_checks u.outline y.closed count body) (tt {0}) → posts_on u y count body ≡ Err n
+  unfolding posts_on
+  own_declined n e = rw (declines (tt {0}) count (own_checks u.outline y.closed count body) n e)
+
   -- the same by the verdict of its own bytes
   module _ (t : Unit) (passes : Ok t ≡ checked (own_checks u.outline y.closed count body) (tt {0})) where
     told_taken : posts_on u y count body ≡ taken_to u y (post_in body) count
     told_taken = own_taken (pass_taken (own_checks u.outline y.closed count body) count (passed (own_checks u.outline y.closed count body) (tt {0}) t (sym passes)).0)
+
+    pub own_within : Owned u.outline y.closed count body
+    own_within = (owned u.outline y.closed count body (tt {0}) t (sym passes)).0
+
+    -- all of them
+    pub all_taken : (i : ℕ) (z : Year) → taken_to u y (post_in body) i ≡ Ok z → i ≤ count → count ≤ i → posts_on u y count body ≡ Ok z
+    all_taken i z so_far h g = let q : count ≡ i = omega arith in told_taken ∙ ap (taken_to u y (post_in body)) q ∙ so_far
 
     -- the post at a place, of what the earlier ones left
     module _ (i : ℕ) (z : Year) (so_far : taken_to u y (post_in body) i ≡ Ok z) (more : i < count) where

@@ -1,5 +1,6 @@
 -- A loss in kg by each of the three forms is finite and not negative, and it is declined just where it exceeds 2,000,000 kg. Assumes nothing.
-use Rattle.std.proofs.Common.{◌≡◌, ℕ, ◌+◌, ◌*◌, ◌^◌, ◌<◌, ◌≤◌, Bool, true, false, cond, not, ◌&&◌, ◌||◌, T, eqb, ltb, leb, List, [], ◌∷◌, sym, refl, ap, ◌∙◌, subst, arith, lit≤, ltb→lt, lt→ltb, leb→le}
+use Rattle.std.proofs.Common.{◌≡◌, ℕ, ◌+◌, ◌*◌, ◌^◌, ◌<◌, ◌≤◌, Bool, true, false, cond, not, ◌&&◌, ◌||◌, T, eqb, ltb, leb, List, [], ◌∷◌, sym, refl, ap}
+use Rattle.std.proofs.Common.{◌∙◌, subst, arith, lit≤, ltb→lt, lt→ltb, leb→le}
 use mathlib.Core.Bool.{false≢true}
 use lib.Dec.{nleb→lt, not_T}
 use lib.Ieee.{Float, nan, inf, fin, up, down, round, le, lt}

@@ -1,5 +1,6 @@
 -- A loss that is taken is at most 2×10^15 micrograms, after its rounding. Assumes nothing.
-use Rattle.std.proofs.Common.{◌≡◌, ℕ, zero, suc, ◌+◌, ◌-◌, ◌*◌, ◌/◌, ◌^◌, ◌<◌, ◌≤◌, min, Bool, true, false, cond, T, ltb, sym, refl, ap, ◌∙◌, subst, zero-le, le_trans, le_of_eq, mul-pos, arith, lit<}
+use Rattle.std.proofs.Common.{◌≡◌, ℕ, zero, suc, ◌+◌, ◌-◌, ◌*◌, ◌/◌, ◌^◌, ◌<◌, ◌≤◌, min, Bool, true, false, cond, T, ltb, sym, refl, ap, ◌∙◌, subst}
+use Rattle.std.proofs.Common.{zero-le, le_trans, le_of_eq, mul-pos, arith, lit<}
 use Rattle.std.proofs.lemmas.Bool.Decides.{nat_tests}
 use native.Mathlib.Nat.{div-le_of_le-mul}
 use lib.Ieee.{Float, Format, nan, inf, fin, binary64, up, down, low, emax, prec, odd, units, round, mul, le, lt, eq, to_unsigned}

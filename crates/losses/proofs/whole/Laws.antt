@@ -1,5 +1,7 @@
 -- The whole part of a float by the fields of its pattern: its shifted digits below 2 ^ 64, and the largest number of 64 bits from there on. From 1 on std has the laws. Assumes nothing.
-use Rattle.std.proofs.Common.{◌≡◌, ℕ, zero, suc, ◌+◌, ◌-◌, ◌*◌, ◌/◌, ◌%◌, ◌^◌, ◌<◌, ◌≤◌, min, Bool, true, false, cond, not, T, eqb, leb, ◌⊎◌, sym, refl, ap, ◌∙◌, subst, inl, inr, zero-le, le_trans, le_of_eq, lt_of_lt_of_le, le-add_right, mod-lt, mod-eq_of_lt, mul-le-mul, one-mul, lt_of_not-le, le-div_iff_mul-le, zero-mul, mul-one, arith, lit<, nltb→le, T_not, pow_pos, pow_mono, pow-add}
+use Rattle.std.proofs.Common.{◌≡◌, ℕ, zero, suc, ◌+◌, ◌-◌, ◌*◌, ◌/◌, ◌%◌, ◌^◌, ◌<◌, ◌≤◌, min, Bool, true, false, cond, not, T, eqb, leb, ◌⊎◌, sym}
+use Rattle.std.proofs.Common.{refl, ap, ◌∙◌, subst, inl, inr, zero-le, le_trans, le_of_eq, lt_of_lt_of_le, le-add_right, mod-lt, mod-eq_of_lt, mul-le-mul, one-mul, lt_of_not-le}
+use Rattle.std.proofs.Common.{le-div_iff_mul-le, zero-mul, mul-one, arith, lit<, nltb→le, T_not, pow_pos, pow_mono, pow-add}
 use mathlib.Core.Bool.{false≢true}
 use native.Mathlib.Nat.{div-eq_of_lt}
 use lib.Pow.{field}

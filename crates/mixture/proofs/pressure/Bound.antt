@@ -1,5 +1,8 @@
 -- A partial pressure that is answered is finite, not negative and at most 2 ^ 30: a part's quotient is at most the sum, and times 2 ^ 30 rounding keeps it. Assumes nothing.
-use Rattle.std.proofs.Common.{◌≡◌, ℕ, zero, suc, ◌+◌, ◌-◌, ◌*◌, ◌^◌, ◌%◌, ◌<◌, ◌≤◌, Bool, true, false, not, ◌&&◌, T, eqb, ltb, leb, List, [], ◌∷◌, length, map, min, ℤ, pos, negsuc, sym, refl, ap, ◌∙◌, subst, true≢false, zero-le, le_trans, le_of_eq, le_refl, lt_of_not-le, add-zero, mul-le-mul_right, mul-le-mul, zero-lt-suc, mul_assoc, mul_comm, mul-pos, one-mul, mul-one, zero-mul, mul_right_comm, lt_of_mul-lt-mul_right, mul-lt-mul_of_pos_right, le-add_right, le-add_left, lt_irrefl, lt_of_le_of_lt, lt_of_lt_of_le, pow_mono, pow_pos, arith, lit<, lit≤, leb→le, eqb→eq, ltb→lt, pow-add}
+use Rattle.std.proofs.Common.{◌≡◌, ℕ, zero, suc, ◌+◌, ◌-◌, ◌*◌, ◌^◌, ◌%◌, ◌<◌, ◌≤◌, Bool, true, false, not, ◌&&◌, T, eqb, ltb, leb, List, [], ◌∷◌}
+use Rattle.std.proofs.Common.{length, map, min, ℤ, pos, negsuc, sym, refl, ap, ◌∙◌, subst, true≢false, zero-le, le_trans, le_of_eq, le_refl, lt_of_not-le, add-zero, mul-le-mul_right}
+use Rattle.std.proofs.Common.{mul-le-mul, zero-lt-suc, mul_assoc, mul_comm, mul-pos, one-mul, mul-one, zero-mul, mul_right_comm, lt_of_mul-lt-mul_right, mul-lt-mul_of_pos_right, le-add_right}
+use Rattle.std.proofs.Common.{le-add_left, lt_irrefl, lt_of_le_of_lt, lt_of_lt_of_le, pow_mono, pow_pos, arith, lit<, lit≤, leb→le, eqb→eq, ltb→lt, pow-add}
 use native.Mathlib.Nat.{mul-mul-mul_comm}
 use mathlib.Core.Bool.{false≢true}
 use lib.Dec.{eqb-suc-zero}
@@ -19,7 +22,8 @@ use Rattle.amounts.specs.declared.decline.Decline.TheVariants.{Mixture}
 use Rattle.amounts.proofs.decline.Laws.{one_taken}
 use Rattle.forms.specs.Binary64.{decimal, whole, ◌⊗◌, ◌⊘◌, ◌⊕◌, finite}
 use Rattle.forms.specs.Pattern.{in_range}
-use Rattle.forms.proofs.Within.{Under, Within, Over, under, within, over, both_zero, T_of, of_T, at_most, capped, over_more, chain, within_under, exact_whole, exact_power, rounded, rounded_under, mul_sign, div_within, add_within, within_finite, in_range_lem, in_range_one}
+use Rattle.forms.proofs.Within.{Under, Within, Over, under, within, over, both_zero, T_of, of_T, at_most, capped, over_more, chain, within_under, exact_whole, exact_power, rounded, rounded_under}
+use Rattle.forms.proofs.Within.{mul_sign, div_within, add_within, within_finite, in_range_lem, in_range_one}
 use Rattle.mixture.specs.Pressure.{content_range, weight_range, pressure_range, Part, part_fits, quotient_of, sum_from, sum_of, pressure_of, may_mix, partial_of, Bounded}
 
 -- ---- values that f64 holds
@@ -85,7 +89,8 @@ scaled k m e f h =
     let p = places k e d.1 in
     let j = p.0 in
     let same : suc m * up e * 2 ^ k * 2 ^ 1074 ≡ suc m * 2 ^ j * down e =
-    ap (λ (x : ℕ). x * 2 ^ 1074) (mul_assoc (suc m) (up e) (2 ^ k)) ∙ mul_assoc (suc m) (up e * 2 ^ k) (2 ^ 1074) ∙ ap (λ (x : ℕ). suc m * x) (sym p.1) ∙ sym (mul_assoc (suc m) (2 ^ j) (down e)) in
+    ap (λ (x : ℕ). x * 2 ^ 1074) (mul_assoc (suc m) (up e) (2 ^ k)) ∙ mul_assoc (suc m) (up e * 2 ^ k) (2 ^ 1074)
+    ∙ ap (λ (x : ℕ). suc m * x) (sym p.1) ∙ sym (mul_assoc (suc m) (2 ^ j) (down e)) in
     let wide : 2 ^ 1024 * down e * 2 ^ 1074 ≡ 2 ^ 2098 * down e = mul_right_comm (2 ^ 1024) (down e) (2 ^ 1074) ∙ ap (λ (x : ℕ). x * down e) (sym (pow-add 2 1024 1074)) in
     let fine : suc m * 2 ^ j < 2 ^ 2098 =
     lt_of_mul-lt-mul_right (down e) (subst (λ (x : ℕ). suc m * 2 ^ j * down e < x) wide (subst (λ (x : ℕ). x < 2 ^ 1024 * down e * 2 ^ 1074) same (mul-lt-mul_of_pos_right h (pow_pos 1074)))) in
@@ -219,7 +224,8 @@ divided : {b d : ℕ} {x : Float} (g : ℕ) (t : ℤ) → Under b d x → 0 < d 
 unfolding div
 divided {b} {d} g t (under s m e z h) D low =
     rw (eqb-suc-zero g)
-    (rounded (unlike s false) (m * up e * down t) (suc g * up t * down e) (lit≤ tt) (mul-pos (mul-pos (zero-lt-suc g) (up_pos t)) (down_pos e)) (mul_sign s false (m * up e) (down t) z (λ u. absurd u))
+    (rounded (unlike s false) (m * up e * down t) (suc g * up t * down e) (lit≤ tt) (mul-pos (mul-pos (zero-lt-suc g) (up_pos t)) (down_pos e))
+    (mul_sign s false (m * up e) (down t) z (λ u. absurd u))
     (le_trans (chain (m * up e) (down e) b d (2 ^ 30 * (suc g * up t)) (down t) D h low) (le_of_eq (mul_assoc (2 ^ 30) (suc g * up t) (down e)))))
 
 -- so the pressure of a share of a sum is at most 2 ^ 30

@@ -1,5 +1,6 @@
 -- What the code's steps answer, part by part, is what the definition does. Assumes nothing.
-use Rattle.std.proofs.Common.{drop, ◌≡◌, ℕ, zero, suc, ◌<◌, ◌≤◌, length, get_or, eqb, zero-le, lt_irrefl, lt_of_le_of_lt, arith, Bool, true, false, List, [], ◌∷◌, ◌&&◌, map, refl, sym}
+use Rattle.std.proofs.Common.{drop, ◌≡◌, ℕ, zero, suc, ◌<◌, ◌≤◌, length, get_or, eqb, zero-le, lt_irrefl, lt_of_le_of_lt, arith, Bool, true, false, List, [], ◌∷◌, ◌&&◌}
+use Rattle.std.proofs.Common.{map, refl, sym}
 use lib.Ieee.{Float}
 use Rattle.std.specs.Prelude.{Ok, Err, Option, Some, None, nat_le, nat_lt, unwrap_or}
 use Rattle.std.specs.List.{list_all}
@@ -57,7 +58,8 @@ pub part_declined : (cs ms : List ℕ) (i : ℕ) → i < length cs → length ms
 unfolding partial_of checked
 part_declined cs ms i l e d h named pressure =
     go (part_fits (part_at cs ms i)) (list_all part_fits (parts_of cs ms)) h (fits_at cs ms i l e)
-    (nat_le 1 (length (floats_of cs)) && nat_le (length (floats_of cs)) 8) (eqb (length (floats_of ms)) (length (floats_of cs))) (nat_lt named (length (floats_of cs))) (in_range pressure_range pressure)
+    (nat_le 1 (length (floats_of cs)) && nat_le (length (floats_of cs)) 8) (eqb (length (floats_of ms)) (length (floats_of cs)))
+    (nat_lt named (length (floats_of cs))) (in_range pressure_range pressure)
   where
     go : (b all : Bool) → mixed b (quotient_of (part_at cs ms i)) ≡ Err d → (all ≡ true → b ≡ true) → (few equal there ranged : Bool)
         → Err d ≡ mixed (few && (equal && (there && (ranged && all)))) (pressure_of pressure named (map quotient_of (parts_of cs ms)))
@@ -70,7 +72,8 @@ part_declined cs ms i l e d h named pressure =
     go false false h f false equal there ranged = sym h
 
 -- where all is taken, the code's steps are the formula
-pub answered : (cs ms : List ℕ) (named : ℕ) (given pressure own sum : Float) → length cs ≤ 8 → length ms ≡ length cs → named < length cs → mixed (in_range pressure_range given) given ≡ Ok pressure
+pub answered : (cs ms : List ℕ) (named : ℕ) (given pressure own sum : Float) → length cs ≤ 8 → length ms ≡ length cs → named < length cs
+    → mixed (in_range pressure_range given) given ≡ Ok pressure
     → mixed (part_fits (part_at cs ms named)) (quotient_of (part_at cs ms named)) ≡ Ok own → mixed (list_all part_fits (parts_of cs ms)) (sum_of (map quotient_of (parts_of cs ms))) ≡ Ok sum
     → Ok ((pressure ⊗ own) ⊘ sum) ≡ partial_of (floats_of cs) (floats_of ms) named given
 unfolding partial_of checked

@@ -8,7 +8,8 @@ use borrow.Author.Tests.{ltb-true, leb-true, eqb-true, eqb-false, ne_eqb}
 use lib.Dec.{eqb, leb, ltb}
 use lib.ListN.{length}
 use Rattle.std.specs.Prelude.{Ok, Err}
-use Rattle.amounts.specs.Decline.{Answer, Check, check, checked, on_taken, verdict_of}
+use Rattle.amounts.specs.Decline.{Answer, Check, check, checked, on_taken, value_or, verdict_of}
+use Rattle.amounts.specs.declared.decline.Decline.{Decline}
 use Rattle.amounts.specs.declared.decline.Decline.TheVariants.{OutOfTurn, NoRoom}
 use Rattle.amounts.proofs.decline.Laws.{AllPass, passed, pass_both}
 use Rattle.std.proofs.lemmas.Bool.{and_parts}
@@ -22,7 +23,7 @@ use Rattle.layout.specs.declared.outline.Outline.{Outline}
 use Rattle.kinds.specs.Kind.{Row}
 use Rattle.post.specs.Moves.{well_formed}
 use Rattle.pages.specs.Tally.{is_free, as_part, part_of_kind, part_checks, set_up_checks, may_begin, post_answer, finished, posted, ended}
-use Rattle.pages.specs.Tally.{set_up, part_on, set_up_on, post_on, Begun, Sound}
+use Rattle.pages.specs.Tally.{set_up, part_on, set_up_on, post_on, Begun, Sound, Counts}
 use Rattle.pages.specs.declared.tally.Tally.{Tally}
 
 -- ---- tables of checks
@@ -33,6 +34,22 @@ unfolding checked
 checked_both [] ys a = refl
 checked_both (check true n ∷ xs) ys a = checked_both xs ys a
 checked_both (check false n ∷ xs) ys a = refl
+
+-- the last check of a part of the set-up, behind those of the part
+pub last_check : (room : ℕ) (t : Tally) (part : SetupPart) (count : ℕ) (body : List ℕ) → Ok (tt {0}) ≡ checked (part_checks t.outline part count body) (tt {0})
+    → checked (set_up_checks room t part count body) (tt {0}) ≡ cond (is_free room t) (Ok (tt {0})) (Err NoRoom)
+unfolding checked
+last_check room t part count body e =
+    rw (checked_both (part_checks t.outline part count body) (check (is_free room t) NoRoom ∷ []) (tt {0}), ← e) (go (is_free room t))
+  where
+    go : (free : Bool) → checked (check free NoRoom ∷ []) (tt {0}) ≡ cond free (Ok (tt {0})) (Err NoRoom)
+    go true = refl
+    go false = refl
+
+-- a check of the part that fails
+pub part_declined : (room : ℕ) (t : Tally) (part : SetupPart) (count : ℕ) (body : List ℕ) (n : Decline) → Err n ≡ checked (part_checks t.outline part count body) (tt {0})
+    → Err n ≡ checked (set_up_checks room t part count body) (tt {0})
+part_declined room t part count body n e = rw (checked_both (part_checks t.outline part count body) (check (is_free room t) NoRoom ∷ []) (tt {0}), ← e)
 
 -- what a table guards is taken where the table passes
 pub checked_guards : {A : Type 0} (rows : List Check) (a : A) → checked rows a ≡ on_taken (checked rows (tt {0})) (λ _. Ok a)
@@ -210,6 +227,25 @@ module _ (room : ℕ) (t : Tally) (sound : Sound room t) where
       go true (Ok k) false p q f = cc
       go true (Err n) b p q f = cc
       go false w b p q f = cc
+
+-- a part of the set-up counts as its checks answer
+pub set_up_counts : (room : ℕ) (t : Tally) (kind : ℕ) (part : SetupPart) (count : ℕ) (body : List ℕ) (v : Answer Unit) → Ok part ≡ part_of_kind kind
+    → v ≡ checked (set_up_checks room t part count body) (tt {0})
+    → Counts t (set_up_on room t kind count body) v (value_or t (on_taken v (λ _. Ok (set_up t part count body))))
+unfolding set_up_on part_on
+set_up_counts room t kind part count body v k e =
+    let is : set_up_on room t kind count body ≡ on_taken v (λ _. Ok (set_up t part count body)) =
+    rw (← k, checked_guards (set_up_checks room t part count body) (set_up t part count body), ← e) in
+    record { verdict = verdict v ∙ ap verdict_of (sym is); after = ap (value_or t) (sym is) }
+  where
+    verdict : (a : Answer Unit) → a ≡ verdict_of (on_taken a (λ _. Ok (set_up t part count body)))
+    verdict (Ok x) = refl
+    verdict (Err n) = refl
+
+-- a kind that holds no part of the set-up
+pub kind_declined : (room : ℕ) (t : Tally) (kind count : ℕ) (body : List ℕ) (n : Decline) → Err n ≡ part_of_kind kind → Counts t (set_up_on room t kind count body) (Err n) t
+unfolding set_up_on
+kind_declined room t kind count body n e = record { verdict = rw (← e); after = rw (← e) }
 
 -- a set-up block that is taken is one block more
 pub set_up_adds : (room : ℕ) (t : Tally) (kind count : ℕ) (body : List ℕ) (u : Tally) → set_up_on room t kind count body ≡ Ok u → u.blocks ≡ t.blocks + 1

@@ -1,17 +1,13 @@
 -- What a stage's bytes tell. Assumes nothing.
 use mathlib.Core.Path.{◌≡◌}
-use mathlib.Core.Bool.{Bool, true, false, cond}
 use mathlib.Core.List.{List}
 use Prim.Native.Nat.{ℕ, ◌+◌, ◌*◌, ◌≤◌}
 use native.Mathlib.Numerals.{add-one}
 use lib.ListN.{length, drop, set, drop_of_length-le}
-use Rattle.std.specs.Prelude.{eqb, Ok, Err}
-use Rattle.amounts.specs.declared.decline.Decline.{Decline}
-use Rattle.amounts.specs.declared.decline.Decline.TheVariants.{Layout}
 use Rattle.encoding.specs.Bytes.{le}
 use Rattle.encoding.specs.Each.{put_to}
 use Rattle.plant.specs.Setup.{no_rates}
-use Rattle.plant.specs.Stage.{second_of, rates_at, pair_row}
+use Rattle.plant.specs.Stage.{rates_at, pair_row}
 use Rattle.plant.specs.declared.setup.Pair.{Pair}
 use Rattle.plant.specs.declared.setup.Setup.{Setup}
 
@@ -19,16 +15,6 @@ use Rattle.plant.specs.declared.setup.Setup.{Setup}
 pub no_row : (at : ℕ) (s : List ℕ) → length s ≤ at → no_rates ≡ rates_at (drop at s)
 unfolding rates_at le
 no_row at s h = rw (drop_of_length-le s h)
-
--- a byte that names neither of two cases breaks the layout
-pub second_declines : (byte : ℕ) (d : Decline) → second_of byte ≡ Err d → d ≡ Layout
-unfolding second_of
-second_declines byte d e = go (eqb byte 1) (eqb byte 2) e
-  where
-    go : (t u : Bool) → cond t (Ok false) (cond u (Ok true) (Err Layout)) ≡ Err d → d ≡ Layout
-    go true u e = cc
-    go false true e = cc
-    go false false e = cc
 
 -- ---- the set-up with a stage more
 

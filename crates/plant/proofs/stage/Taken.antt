@@ -1,5 +1,5 @@
 -- What a stage block that is taken leaves. Assumes nothing.
-use mathlib.Core.Path.{◌≡◌, refl, ap, ◌∙◌}
+use mathlib.Core.Path.{◌≡◌, refl, sym, ap, ◌∙◌}
 use mathlib.Core.Bool.{Bool, true, false, not, ◌&&◌}
 use mathlib.Core.List.{List}
 use Prim.Native.Nat.{ℕ, ◌+◌, ◌*◌, ◌≤◌, ◌<◌}
@@ -10,15 +10,16 @@ use borrow.Author.Tests.{eqb-true, ne_eqb, leb-true, ltb-true}
 use Rattle.amounts.specs.Content.{is_ppm}
 use Rattle.amounts.specs.Treatment.{is_rate}
 use Rattle.amounts.specs.declared.treatment.Rate.{Rate}
-use Rattle.std.specs.Prelude.{Ok}
+use Rattle.std.specs.Prelude.{Ok, Err}
 use Rattle.amounts.specs.Decline.{Answer, is_taken, checked}
+use Rattle.amounts.specs.declared.decline.Decline.{Decline}
 use Rattle.layout.specs.Outline.{may_post}
 use Rattle.plant.specs.Setup.{no_pair, IsRated, Rated, SoundSetup}
-use Rattle.plant.specs.Stage.{stage_of, side_row, rate_row, pair_row, pair_fits, all_pairs_fit, stage_checks, with_stage}
+use Rattle.plant.specs.Stage.{stage_of, side_row, rate_row, pair_row, pair_fits, all_pairs_fit, stage_checks, with_stage, described_on}
 use Rattle.layout.specs.declared.outline.Outline.{Outline}
 use Rattle.plant.specs.declared.setup.Rates.{Rates}
 use Rattle.plant.specs.declared.setup.Setup.{Setup}
-use Rattle.amounts.proofs.decline.Laws.{passed}
+use Rattle.amounts.proofs.decline.Laws.{passed, accepts, declines}
 use Rattle.std.proofs.lemmas.Bool.{and_parts}
 use Rattle.encoding.proofs.Each.{all_at, length-put, put_keeps}
 
@@ -53,6 +54,22 @@ accepted o stage body x y e =
       },
       h.1,
     )
+
+-- a kind 2 block by the verdict of its checks
+module _ (u : Setup) (stage : ℕ) (body : List ℕ) where
+  pub described_declined : (d : Decline) → Err d ≡ checked (stage_checks u.outline stage body) (tt {0}) → described_on u stage body ≡ Err d
+  unfolding described_on
+  described_declined d e = declines (tt {0}) (with_stage u stage body) (stage_checks u.outline stage body) d e
+
+  pub described_taken : {t : Unit} → Ok t ≡ checked (stage_checks u.outline stage body) (tt {0}) → described_on u stage body ≡ Ok (with_stage u stage body)
+  unfolding described_on
+  described_taken e = accepts (tt {0}) (with_stage u stage body) (stage_checks u.outline stage body) e
+
+  -- the stage, the pairs and the rows are there
+  pub may_add : {t : Unit} → Ok t ≡ checked (stage_checks u.outline stage body) (tt {0}) → (stage < 8) × (u.outline.substances ≤ 8) × (length body ≡ 500)
+  may_add {t} e =
+      let a : Accepts u.outline stage body = (accepted u.outline stage body (tt {0}) t (sym e)).0 in
+      (omega (arith, a.next, a.left, a.stages), a.substances, a.long)
 
 pub sound_stage : (u : Setup) (stage : ℕ) (body : List ℕ) → SoundSetup u → Accepts u.outline stage body → SoundSetup (with_stage u stage body)
 sound_stage u stage body h a =

@@ -4,7 +4,7 @@ use Rattle.std.specs.Prelude.{Ok, Err}
 use Rattle.forms.specs.Form.{values_of}
 use Rattle.losses.specs.Coefficient.{row_of}
 use Rattle.losses.proofs.loss.Laws.{over_bounded, over_range}
-use Rattle.amounts.specs.Decline.{Answer, check, checked, on_taken}
+use Rattle.amounts.specs.Decline.{Answer, check, checked, on_taken, verdict_of}
 use Rattle.amounts.specs.declared.decline.Decline.{Decline}
 use Rattle.amounts.specs.declared.decline.Decline.TheVariants.{Layout, OutOfRange}
 use Rattle.amounts.proofs.decline.Laws.{one_taken, was_taken}
@@ -60,6 +60,21 @@ laid_read o s = by_length (eqb (length s) 48) refl (kind_of (post_at s).kind) re
     by_length false e x f = rw e
     by_length true e (Err d) f = rw (e, f)
     by_length true e (Ok r) f = by_fit r (fields_fit (r.limits o) (post_at s)) refl e f
+
+-- 7 behind it
+pub formed_read : (o : Outline) (s : List ℕ)
+    → verdict_of (well_formed o s) ≡ on_taken (laid_of (post_at s) (laid_out o s)) (λ l. cond (floats_fit l.measure l.post) (Ok (tt {0})) (Err OutOfRange))
+unfolding well_formed checked
+formed_read o s = by_row (laid_out o s)
+  where
+    by_floats : (t : Bool) (r : Row) → verdict_of (checked (check t OutOfRange ∷ []) r) ≡ cond t (Ok (tt {0})) (Err OutOfRange)
+    by_floats true r = refl
+    by_floats false r = refl
+
+    by_row : (x : Answer Row) → verdict_of (on_taken x (λ k. checked (check (floats_fit k.measure (post_at s)) OutOfRange ∷ []) k))
+        ≡ on_taken (laid_of (post_at s) x) (λ l. cond (floats_fit l.measure l.post) (Ok (tt {0})) (Err OutOfRange))
+    by_row (Ok r) = by_floats (floats_fit r.measure (post_at s)) r
+    by_row (Err d) = refl
 
 -- it meets what its row's limits tell
 laid_within : (o : Outline) (s : List ℕ) (r : Row) → laid_out o s ≡ Ok r → Within o (post_at s) r.does r.measure

@@ -118,19 +118,6 @@ module _ {A : Type 0} (lent : A → ℕ) (at : A → Page → Type 0) where
         complete_same : (x y : Page) → ◌≡◌ {A = Result Page Stopped} (Ok x) (Ok y) → x ≡ y
         complete_same x y e = cc
 
--- what `map_err` makes of a record's answer
-abbrev pub stop_at : ℕ → Result Unit Refusal → Result Unit Stopped
-stop_at place (Ok x) = Ok tt
-stop_at place (Err n) = Err (record { refusal = n; place = place })
-
-pub stop_err : (place : ℕ) (r : Result Unit Refusal) (x : Stopped) → stop_at place r ≡ Err x → (r ≡ Err x.refusal) × (x ≡ record { refusal = x.refusal; place = place })
-stop_err place (Ok y) x e = cc
-stop_err place (Err n) x e = (cc, cc)
-
-pub stop_ok : (place : ℕ) (r : Result Unit Refusal) (x : Unit) → stop_at place r ≡ Ok x → r ≡ Ok (tt {0})
-stop_ok place (Ok y) x e = refl
-stop_ok place (Err n) x e = cc
-
 -- what ends with a length is whole
 pub whole : (o : Result Page Stopped) (n : ℕ) → Ok n ≡ end_of o → (p : Page) × (o ≡ Ok p)
 whole (Ok p) n e = (p, refl)

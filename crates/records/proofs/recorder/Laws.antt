@@ -18,7 +18,7 @@ use Rattle.pages.specs.declared.tally.Tally.{Tally}
 use Rattle.pages.proofs.page.Laws.{set_up_page, set_up_as, post_as}
 use Rattle.pages.proofs.tally.Laws.{set_up_adds, post_on_taken}
 use Rattle.pages.specs.declared.counter.Counter.{Counter}
-use Rattle.records.specs.Recorder.{Reached, Follows}
+use Rattle.records.specs.Recorder.{Reached, StandsFor, Follows}
 
 -- bytes that are put leave the length
 length-placed : (l : List ℕ) (at : ℕ) (s : List ℕ) → length (placed l at s) ≡ length l
@@ -97,7 +97,8 @@ module _ (room : ℕ) (t : Tally) (p : Page) (r : Reached room t p) where
 
 pub counter_follows : (answers : Page → Answer Page) (a b : Counter) (v : Answer Unit) → b.room ≡ a.room
     → ((p : Page) (r : Reached a.room a.tally p) → Alike a.room a.tally p r (answers p) v b.tally)
-    → Follows (λ _. 0) (λ (x : Counter) p. Reached x.room x.tally p) answers a b v
+    → Follows (λ _. 0) StandsFor answers a b v
+unfolding StandsFor
 counter_follows answers a b v e h =
     record {
       lent_stays = refl;

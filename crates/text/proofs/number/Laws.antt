@@ -1,10 +1,11 @@
 -- The digits of a number and of a figure, and how many there are. Assumes nothing.
-use Rattle.std.proofs.Common.{◌≡◌, ◌∙◌, [], ◌∷◌, ℕ, zero, suc, ◌/◌, ◌^◌, ◌≤◌, ◌<◌, length, rules, arith}
+use Rattle.std.proofs.Common.{◌≡◌, ◌∙◌, [], ◌∷◌, ◌++◌, ◌%◌, ℕ, zero, suc, ◌/◌, ◌^◌, ◌≤◌, ◌<◌, length, rules, arith}
 use native.Mathlib.Nat.{pow-suc}
+use borrow.Author.Tests.{lt-ltb, le-ltb}
 use Rattle.std.specs.Fmt as std
 use Rattle.std.proofs.lemmas.Bool.Decides.{nat_tests}
 use Rattle.std.proofs.lemmas.Fmt.{AppendsLastDigit, decimal_from_appends, length-decimal-le}
-use Rattle.text.specs.Number.{digit, digits_to, decimal}
+use Rattle.text.specs.Number.{digit, digits_to, decimal, figure_text}
 
 -- ---- decimal digits
 
@@ -27,3 +28,14 @@ decimal_small x h = grind (arith, nat_tests)
 
 pub decimal_short : (x : ℕ) → x < 10 ^ 11 → length (decimal x) ≤ 11
 decimal_short x h = rw (decimal_is x (omega arith)) (length-decimal-le 11 x (omega arith) h (omega arith))
+
+-- ---- figures
+
+-- under 10 kg: the tenths are a digit
+pub figure_small : (f : ℕ) → f < 10 ^ 10 → figure_text f ≡ decimal (f / 10 ^ 9) ++ (46 ∷ decimal (f / 10 ^ 8 % 10))
+unfolding figure_text
+figure_small f h = rw (lt-ltb f (10 ^ 10) h, decimal_small (f / 10 ^ 8 % 10) (omega arith))
+
+pub figure_whole : (f : ℕ) → 10 ^ 10 ≤ f → figure_text f ≡ decimal (f / 10 ^ 9)
+unfolding figure_text
+figure_whole f h = rw (le-ltb f (10 ^ 10) h)

@@ -1,10 +1,10 @@
-use Rattle.std.proofs.Common.{rules, ◌≡◌, true, eqb, length}
-use Rattle.amounts.specs.Decline.{checked}
+use Rattle.std.proofs.Common.{rules, ◌≡◌, true, refl}
+use Rattle.layout.specs.Outline.{may_set_up}
+use Rattle.plant.specs.Setup.{setup_limits}
+use Rattle.plant.proofs.Tables.{in_turn}
 use Rattle.plant.proofs.setup.check_setup.Goals as goal
 
 pub returns : goal.returns
-unfolding checked
 returns c =
-    let turn : eqb c.args.o.substances 0 ≡ true = search rules in
-    let long : eqb (length c.args.body.now) 500 ≡ true = search rules in
-    rw (turn, long) c.check_body.ensures
+    let turn : may_set_up c.args.o ≡ true = search rules in
+    rw turn (in_turn (setup_limits c.args.count c.args.body.now) refl _ (rw c.is_within_limits.ensures at c.check-2.ensures))

@@ -14,3 +14,29 @@ loop-made-preserved g c =
     let more : length (failed ++ e ∷ []) + 1 ≡ c.loop-made._made + 1 = omega (arith, length-append failed (e ∷ [])) in
     let calls = FoldsTo-push _ _ _ _ _ _ calls (search of_calls) in
     (mut_next _ _ _ _ _ _ c.in-Err.ensures refl always, (failed ++ e ∷ [], calls, All-push IsInterrupted failed e all interrupted, more))
+
+pub returns-in_default : goal.returns-in_default
+returns-in_default g c =
+    let (failed, calls, all, count) = c.loop-made.invariant.1 in
+    record {
+      failed = failed;
+      last = c.loop-made.call;
+      calls = calls;
+      answers = search of_calls;
+      interrupted = all;
+      fewer = omega arith;
+      gives_up = λ i. search rules;
+    }
+
+pub returns : goal.returns
+returns g c =
+    let (failed, calls, all, count) = c.loop-made.invariant.1 in
+    record {
+      failed = failed;
+      last = c.loop-made.call;
+      calls = calls;
+      answers = search of_calls;
+      interrupted = all;
+      fewer = omega arith;
+      gives_up = search rules;
+    }

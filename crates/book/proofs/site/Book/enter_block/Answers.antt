@@ -2,12 +2,21 @@ use Rattle.std.proofs.Common.{◌≡◌, ◌+◌, ◌∙◌, Ok, sym, ap, arith}
 use Rattle.std.proofs.lemmas.Grind.{common_steps}
 use Rattle.amounts.specs.Decline.{verdict_of}
 use Rattle.layout.specs.Frame.{held_at}
+use Rattle.layout.proofs.frame.Laws.{held_framed}
 use Rattle.book.specs.Block.{block_on}
 use Rattle.book.specs.Site.{Book, book_with}
 use Rattle.book.proofs.posts.Laws.{was_kept, hands_on}
 use Rattle.book.proofs.block.Laws.{not_framed, setup_declined, setup_taken, setup_sound, posts_declined, posts_counted, block_sound}
 use Rattle.book.proofs.site.Book.enter_block.Goals as goal
 use Rattle.book.proofs.site.Book.enter_block.Goals.{in-SetUp+in_ok-add_part-in-SetUp, in-Posts+in_ok-take_posts-in-Posts}
+
+-- ---- the bytes of a block
+
+pub bounds-s-5 : goal.bounds-s-5
+bounds-s-5 c = omega (arith, (held_framed _ c.args.s.now _ (sym c.in_ok-held.ensures)).0.long)
+
+pub slice_bounds-body-end : goal.slice_bounds-body-end
+slice_bounds-body-end c = omega (arith, (held_framed _ c.args.s.now _ (sym c.in_ok-held.ensures)).0.long)
 
 -- ---- a block that is declined
 
