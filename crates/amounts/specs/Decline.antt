@@ -1,5 +1,5 @@
 -- Why a call is declined (document 01, "Why a call is declined, in checking order"), and the table of checks that finds it.
-use Rattle.std.specs.Prelude.{ℕ, Bool, true, false, List, [], ◌∷◌, Result, Ok, Err, is_ok}
+use Rattle.std.specs.Prelude.{ℕ, Bool, true, false, ◌&&◌, List, [], ◌∷◌, Result, Ok, Err, is_ok}
 use Rattle.amounts.specs.declared.decline.Decline.{Decline}
 use Rattle.amounts.specs.declared.decline.Decline.TheVariants.{NotABlock, CheckSum, NotNext, OutOfTurn, Closed, Layout, OutOfRange, NoRow}
 use Rattle.amounts.specs.declared.decline.Decline.TheVariants.{Excess, Full, Short, NoSubstance, NoRoom, StockCount, Mixture}
@@ -50,6 +50,11 @@ unfoldable pub checked : {A : Type 0} → List Check → A → Answer A
 checked [] a = Ok a
 checked (check true d ∷ rows) a = checked rows a
 checked (check false d ∷ rows) a = Err d
+
+-- whether each check of a table passes
+abbrev pub passes : List Check → Bool
+passes [] = true
+passes (check t d ∷ rows) = t && passes rows
 
 -- what follows where an answer is taken; a decline stands
 abbrev pub on_taken : {A B : Type 0} → Answer A → (A → Answer B) → Answer B

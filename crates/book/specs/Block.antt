@@ -4,19 +4,11 @@ use Rattle.amounts.specs.Decline.{Answer, on_taken}
 use Rattle.layout.specs.Frame.{count_of, body_of, held_at}
 use Rattle.layout.specs.declared.holds.Holds.{Holds}
 use Rattle.layout.specs.declared.holds.Holds.TheVariants.{SetUp, Posts}
-use Rattle.layout.specs.declared.holds.SetupPart.{SetupPart}
-use Rattle.layout.specs.declared.holds.SetupPart.TheVariants.{Materials, Stage}
-use Rattle.plant.specs.Setup.{set_up_on}
-use Rattle.plant.specs.Stage.{described_on}
+use Rattle.plant.specs.Part.{setup_by}
 use Rattle.plant.specs.declared.setup.Setup.{Setup}
 use Rattle.book.specs.Posts.{posts_on}
 use Rattle.book.specs.Site.{Book, book_with}
 use Rattle.book.specs.declared.site.Year.{Year}
-
--- 4 on, of a part of the set-up: the substances and materials, or a stage
-abbrev pub setup_by : Setup → SetupPart → ℕ → List ℕ → Answer Setup
-setup_by u Materials count body = set_up_on u count body
-setup_by u Stage count body = described_on u count body
 
 -- a block more on a book: with another set-up, or with another year
 abbrev pub on_setup : Book → Answer Setup → Answer Book

@@ -1,24 +1,12 @@
 // A block on a book.
 ghost use Rattle.std.specs.Prelude.{◌≡◌, OnOk, OnErr};
 ghost use Rattle.amounts.specs.Decline.{value_or, verdict_of};
-ghost use Rattle.book.specs.Block.{setup_by, block_on};
+ghost use Rattle.book.specs.Block.{block_on};
 
 use crate::site::Book;
 use amounts::decline::Decline;
 use layout::frame::read_frame;
-use layout::holds::{Holds, SetupPart};
-use plant::setup::Setup;
-
-// A part of the set-up more: a match on what a block holds, of which there are two kinds.
-fn add_part(setup: &mut Setup, part: SetupPart, count: u8, body: &[u8]) -> Result<(), Decline>
-    ensures verdict { result ≡ verdict_of (setup_by setup.old part count body.now) }
-    ensures setup_after { setup.new ≡ value_or setup.old (setup_by setup.old part count body.now) }
-{
-    match part {
-        SetupPart::Materials => setup.set_up(count, body),
-        SetupPart::Stage => setup.describe(count, body),
-    }
-}
+use layout::holds::Holds;
 
 impl Book {
     // One block of any bytes, in place: a decline leaves the posts before it.
@@ -31,7 +19,7 @@ impl Book {
         let count = s[5];
         let body = &s[8..508];
         match held {
-            Holds::SetUp(part) => add_part(&mut self.setup, part, count, body)?,
+            Holds::SetUp(part) => self.setup.add_part(part, count, body)?,
             Holds::Posts => self.take_posts(count, body)?,
         }
         self.blocks += 1;

@@ -21,7 +21,7 @@ use Rattle.layout.specs.declared.holds.Holds.TheVariants.{SetUp, Posts}
 use Rattle.layout.specs.declared.holds.SetupPart.{SetupPart}
 use Rattle.layout.specs.declared.outline.Outline.{Outline}
 use Rattle.plant.specs.declared.setup.Setup.{Setup}
-use Rattle.amounts.proofs.decline.Laws.{was_taken, passed}
+use Rattle.amounts.proofs.decline.Laws.{has_value, was_taken, passed}
 use Rattle.layout.proofs.frame.Laws.{framed}
 use Rattle.layout.proofs.frame.Made.{held_made}
 use Rattle.book.specs.Block.{block_on}
@@ -34,8 +34,8 @@ use Rattle.book.proofs.block.Laws as blocks
 use Rattle.book.proofs.blocks.Laws.{parts_cut}
 use Rattle.book.proofs.posts.Laws as posts
 use Rattle.book.proofs.posts.Laws.{none_yet}
-use Rattle.plant.proofs.setup.Taken as first
-use Rattle.plant.proofs.stage.Taken as stage
+use Rattle.bodies.proofs.setup.Taken as first
+use Rattle.bodies.proofs.stage.Taken as stage
 use Rattle.text.specs.Print.{title, lines_to}
 use Rattle.journal.specs.Reading.{outcome_text}
 use Rattle.report.specs.Report.{report_at}
@@ -47,7 +47,7 @@ use Rattle.claims.specs.Singles.{all_taken}
 use Rattle.claims.specs.Written.{joined, Sheet, sheet, of_posts, sheets, framed_from, blocks_of, ended_calls}
 use Rattle.claims.specs.Written as written
 use Rattle.claims.specs.Reread.{singly, JournalIsItsCalls, FilingIsOfCalls}
-use Rattle.claims.proofs.written.Accepted.{has_value, not_posts, set_up_taken}
+use Rattle.claims.proofs.written.Accepted.{not_posts, set_up_taken}
 use Rattle.claims.proofs.written.Claims.{blocks_pass}
 use Rattle.claims.proofs.written.Places.{joined_last}
 use Rattle.claims.proofs.Filled.{run_admits, taken_long, one_more, block_of_posts_lem}

@@ -11,13 +11,15 @@ use Rattle.std.specs.List.{All}
 use lib.ListN.{length, get_or, drop, set}
 use Rattle.encoding.specs.Each.{put_to}
 use Rattle.amounts.specs.Decline.{value_or}
-use Rattle.plant.specs.Setup.{no_rates, no_pair, no_stage, materials_in, numbers_in, classes_in, contents_in, counted_all, setup_of, SoundSetup}
-use Rattle.plant.specs.Stage.{second_of, stage_of, rate_row, pair_row, with_stage}
+use Rattle.bodies.specs.Setup.{materials_in, numbers_in, classes_in, contents_in}
+use Rattle.plant.specs.Setup.{no_rates, no_pair, no_stage, counted_all, setup_of, SoundSetup}
+use Rattle.bodies.specs.Stage.{second_of, rate_row}
+use Rattle.plant.specs.Stage.{stage_of, pair_row, with_stage}
 use Rattle.plant.specs.declared.setup.Setup.{Setup}
 use Rattle.encoding.proofs.Each.{put_at, put_other}
 use Rattle.plant.proofs.stage.Laws as stage_laws
 use Rattle.plant.proofs.setup.Taken.{same_at}
-use Rattle.plant.proofs.stage.Taken as stage
+use Rattle.bodies.proofs.stage.Taken as stage
 use Rattle.layout.specs.Frame.{count_of, body_of}
 use Rattle.claims.specs.Weighing.{stage_in}
 

@@ -37,9 +37,9 @@ use Rattle.book.proofs.entry.Laws.{room_of}
 use Rattle.book.proofs.ledger.Laws.{cell_le}
 use Rattle.book.proofs.posts.Laws as posts
 use Rattle.book.proofs.posts.Laws.{Posted, post_step}
-use Rattle.plant.proofs.setup.Taken as first
+use Rattle.bodies.proofs.setup.Taken as first
 use Rattle.book.proofs.site.Laws.{sound_fresh, open_posts_le}
-use Rattle.plant.proofs.stage.Taken as stage
+use Rattle.bodies.proofs.stage.Taken as stage
 use Rattle.claims.specs.Demand as demand
 use Rattle.claims.specs.Standing.{Call, post, block, answer_to, run, keep, accepted, Standing, nothing, with_posts, stand, stood, standing}
 use Rattle.claims.specs.Standing.{substances_of, numbers_of, counted_in, moves_of, sum_over}

@@ -6,7 +6,8 @@ use Rattle.encoding.specs.Each.{list_to}
 use Rattle.layout.specs.Frame.{block_kind, count_of, body_of}
 use Rattle.layout.specs.Holds.{holds_of}
 use Rattle.layout.specs.Posts.{post_in}
-use Rattle.plant.specs.Setup.{numbers_in, classes_in, contents_in, counted_all}
+use Rattle.bodies.specs.Setup.{numbers_in, classes_in, contents_in}
+use Rattle.plant.specs.Setup.{counted_all}
 use Rattle.layout.specs.declared.holds.Holds.{Holds}
 use Rattle.layout.specs.declared.holds.Holds.TheVariants.{SetUp, Posts}
 use Rattle.layout.specs.declared.holds.SetupPart.TheVariants.{Materials, Stage}

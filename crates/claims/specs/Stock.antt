@@ -2,7 +2,7 @@
 -- posts took (document 01, "Posts"). All is read from bytes, and nothing from a book.
 use Rattle.std.specs.Prelude.{ℕ, ◌-◌, ◌≤◌, ◌<◌, ◌≡◌, cond, List, eqb}
 use Rattle.layout.specs.Frame.{body_of}
-use Rattle.plant.specs.Setup.{materials_in}
+use Rattle.bodies.specs.Setup.{materials_in}
 use Rattle.kinds.specs.declared.fields.Post.{Post}
 use Rattle.book.specs.Site.{fresh_book}
 use Rattle.stock.specs.Sheet.{stock_from, stock_of}

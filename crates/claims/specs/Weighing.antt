@@ -8,8 +8,8 @@ use Rattle.amounts.specs.Treatment.{parts_of}
 use Rattle.amounts.specs.declared.treatment.Parts.{Parts}
 use Rattle.encoding.specs.Each.{sum_to}
 use Rattle.layout.specs.Frame.{count_of, body_of}
-use Rattle.plant.specs.Stage.{sewered, landfilled, water_row, rate_row}
-use Rattle.plant.specs.declared.setup.Rates.{Rates}
+use Rattle.bodies.specs.Stage.{sewered, landfilled, water_row, rate_row}
+use Rattle.bodies.specs.declared.stage.Rates.{Rates}
 use Rattle.kinds.specs.Account.{place}
 use Rattle.kinds.specs.declared.account.Account.{Account}
 use Rattle.kinds.specs.declared.account.Account.TheVariants.{Held, Shipped, OffSite, Landfill, Soil, Consumed, Gas, Water, Vapour}

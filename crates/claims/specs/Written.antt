@@ -14,7 +14,8 @@ use Rattle.layout.specs.declared.outline.Outline.{Outline}
 use Rattle.post.specs.Moves.{well_formed}
 use Rattle.pages.specs.Calls.{Call, set_up, post, end, run, accepted}
 use Rattle.pages.specs.Page.{Page, fresh_page, ended}
-use Rattle.pages.specs.Tally.{part_checks, outline_after}
+use Rattle.bodies.specs.Part.{part_checks}
+use Rattle.pages.specs.Tally.{outline_after}
 
 -- ---- the journal
 

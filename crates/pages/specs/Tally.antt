@@ -4,8 +4,8 @@ use Rattle.amounts.specs.Decline.{Answer, Check, check, checked, on_taken, value
 use Rattle.amounts.specs.declared.decline.Decline.TheVariants.{OutOfTurn, Layout, NoRoom}
 use Rattle.layout.specs.Holds.{holds_of}
 use Rattle.layout.specs.Outline.{fresh_outline, with_described, may_post}
-use Rattle.plant.specs.Setup.{outline_of, setup_checks}
-use Rattle.plant.specs.Stage.{stage_checks}
+use Rattle.bodies.specs.Part.{part_checks}
+use Rattle.bodies.specs.Setup.{outline_of}
 use Rattle.layout.specs.declared.holds.Holds.{Holds}
 use Rattle.layout.specs.declared.holds.Holds.TheVariants.{SetUp, Posts}
 use Rattle.layout.specs.declared.holds.SetupPart.{SetupPart}
@@ -38,12 +38,7 @@ unfoldable pub part_of_kind : ℕ → Answer SetupPart
 unfolding holds_of
 part_of_kind kind = as_part (holds_of kind)
 
--- 4 and 6 of a part of the set-up; "a body of another length is a 6 after 4"
-abbrev pub part_checks : Outline → SetupPart → ℕ → List ℕ → List Check
-part_checks o Materials count body = setup_checks o count body
-part_checks o Stage count body = stage_checks o count body
-
--- and 13 "after all others"
+-- 4 and 6 of a part of the set-up, and 13 "after all others"
 abbrev pub set_up_checks : ℕ → Tally → SetupPart → ℕ → List ℕ → List Check
 set_up_checks room t part count body = part_checks t.outline part count body ++ (check (is_free room t) NoRoom ∷ [])
 

@@ -1,13 +1,13 @@
 // A writer that writes nothing: its calls answer as they do of a writer over a buffer of so many bytes.
 ghost use Rattle.std.specs.Prelude.{◌≡◌, ◌*◌};
 ghost use Rattle.amounts.specs.Decline.{checked, verdict_of};
-ghost use Rattle.pages.specs.Tally.{fresh_tally, is_free, part_of_kind, part_checks, set_up_checks, may_begin, post_answer};
+ghost use Rattle.pages.specs.Tally.{fresh_tally, is_free, part_of_kind, set_up_checks, may_begin, post_answer};
 ghost use Rattle.pages.specs.Tally.{set_up_on, post_on, ended, Sound, Counts};
 
 use crate::tally::Tally;
 use amounts::decline::{Decline, check};
+use bodies::part::check_part;
 use layout::holds::{Holds, SetupPart};
-use plant::{setup, stage};
 use post::moves;
 
 pub const BLOCK_SIZE: usize = 512;
@@ -51,20 +51,10 @@ impl Counter {
         self.tally.waiting != 0 || self.is_free()
     }
 
-    // A match on what a block holds, of which there are two kinds.
-    fn check_part(&self, part: SetupPart, count: u8, body: &[u8]) -> Result<(), Decline>
-        ensures { result ≡ checked (part_checks self.now.tally.outline part count body.now) (tt {0}) }
-    {
-        match part {
-            SetupPart::Materials => setup::check_setup(self.tally.outline, count, body),
-            SetupPart::Stage => stage::check_stage(self.tally.outline, count, body),
-        }
-    }
-
     fn check_set_up(&self, part: SetupPart, count: u8, body: &[u8]) -> Result<(), Decline>
         ensures { result ≡ checked (set_up_checks self.now.room self.now.tally part count body.now) (tt {0}) }
     {
-        self.check_part(part, count, body)?;
+        check_part(self.tally.outline, part, count, body)?;
         check(self.is_free(), Decline::NoRoom)
     }
 

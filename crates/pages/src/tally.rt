@@ -4,9 +4,9 @@ ghost use Rattle.layout.specs.Outline.{may_describe};
 ghost use Rattle.layout.specs.declared.holds.SetupPart.TheVariants.{Stage};
 ghost use Rattle.pages.specs.Tally.{outline_after, set_up, finished, posted, ended};
 
+use bodies::setup;
 use layout::holds::SetupPart;
 use layout::outline::Outline;
-use plant::setup;
 
 // The outline of the set-up blocks that are written, the posts that wait for their block, and the blocks that are written.
 #[derive(Clone, Copy, Default)]

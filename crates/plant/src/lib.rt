@@ -1,5 +1,6 @@
-// The plant as its set-up blocks describe it: what the bodies of kinds 1 and 2 say, their turns and limits, and the set-up that they make.
+// The plant as its set-up blocks describe it: the set-up that the bodies of kinds 1 and 2 make.
 #![tactic(auto)]
 
+pub mod part;
 pub mod setup;
 pub mod stage;

@@ -1,60 +1,13 @@
-// Kind 2: what a body says of a stage's destinations and of each substance's side and rates, its limits, and the set-up with that stage described.
-ghost use Rattle.std.specs.Prelude.{◌≡◌, false, ◌&&◌, ◌+◌, ◌*◌, ◌≤◌, ◌<◌, length, drop, get_or};
-ghost use Rattle.amounts.specs.Decline.{is_taken, checked, value_or, verdict_of};
-ghost use Rattle.encoding.specs.Bytes.{all_zero};
-ghost use Rattle.plant.specs.Setup.{passes};
-ghost use Rattle.plant.specs.Stage.{second_of, water_in, residue_in, stage_of, with_stage, described_on};
-ghost use Rattle.plant.specs.Stage.{rates_at, pair_of, pair_fits, all_pairs_fit, stage_limits, stage_checks};
+// Kind 2: the set-up with a stage described as a body says.
+ghost use Rattle.std.specs.Prelude.{◌≡◌, ◌+◌, ◌*◌, ◌≤◌, ◌<◌, length, drop, get_or};
+ghost use Rattle.amounts.specs.Decline.{value_or, verdict_of};
+ghost use Rattle.bodies.specs.Stage.{second_of, rates_at};
+ghost use Rattle.plant.specs.Stage.{pair_of, stage_of, with_stage, described_on};
 
-use crate::setup::{Pair, Rates, Setup, Stage};
-use amounts::decline::{Decline, check};
-use amounts::treatment::Rate;
+use crate::setup::{Pair, Setup, Stage};
+use amounts::decline::Decline;
+use bodies::stage::{check_stage, is_second, rates_at};
 use encoding::bytes;
-use layout::outline::Outline;
-
-// Whether a byte names the second of two cases, 1 and 2: one reading for three fields, which an enum for each would do three times.
-#[tactic(auto, unfolding(crate::specs::Stage::second_of))]
-fn second_of(byte: u8) -> Result<bool, Decline>
-    ensures { result ≡ second_of byte }
-{
-    match byte {
-        1 => Ok(false),
-        2 => Ok(true),
-        _ => Err(Decline::Layout),
-    }
-}
-
-// Whether a byte names one of the two.
-fn is_named(byte: u8) -> bool
-    ensures { result ≡ is_taken (second_of byte) }
-{
-    second_of(byte).is_ok()
-}
-
-// Which of the two, where a byte that names neither counts as the first.
-pub fn is_second(byte: u8) -> bool
-    ensures { result ≡ value_or false (second_of byte) }
-{
-    second_of(byte).unwrap_or(false)
-}
-
-// The rates of the row that stands from a place on, behind its side.
-#[tactic(auto, unfolding(crate::specs::Stage::rates_at))]
-pub fn rates_at(s: &[u8], at: usize) -> Rates
-    ensures { result ≡ rates_at (drop at s.now) }
-{
-    let row = bytes::tail(s, at);
-    Rates {
-        gas: Rate {
-            removal: bytes::le32(row, 1),
-            destruction: bytes::le32(row, 5),
-        },
-        water: Rate {
-            removal: bytes::le32(row, 9),
-            destruction: bytes::le32(row, 13),
-        },
-    }
-}
 
 // The pair of the row that stands from a place on.
 fn pair_at(s: &[u8], at: usize) -> Pair
@@ -74,53 +27,6 @@ fn stage_of(body: &[u8]) -> Stage
         to_sewer: is_second(bytes::byte_at(body, 0)),
         to_landfill: is_second(bytes::byte_at(body, 1)),
     }
-}
-
-fn pair_fits(side: u8, r: Rates) -> bool
-    ensures { result ≡ pair_fits (second_of side) r }
-{
-    is_named(side) && r.gas.is_valid() && r.water.is_valid()
-}
-
-fn all_pairs_fit(s: &[u8], n: u8) -> bool
-    ensures { result ≡ all_pairs_fit n s.now }
-{
-    (0..usize::from(n)).all(|i| pair_fits(bytes::byte_at(s, i * 17), rates_at(s, i * 17)))
-}
-
-// Whether a body's first two bytes name where the stage's water and its residues go.
-fn head_fits(body: &[u8]) -> bool
-    ensures { result ≡ (is_taken (water_in body.now) && is_taken (residue_in body.now)) }
-{
-    is_named(bytes::byte_at(body, 0)) && is_named(bytes::byte_at(body, 1))
-}
-
-// Whether a body's pairs fit, and the bytes behind them are zero.
-fn rest_fits(substances: u8, body: &[u8]) -> bool
-    ensures { result ≡ (all_pairs_fit substances (drop 2 body.now) && all_zero (drop (2 + substances * 17) body.now)) }
-{
-    all_pairs_fit(bytes::tail(body, 2), substances)
-        && bytes::zero_from(body, 2 + usize::from(substances) * 17)
-}
-
-// Whether a body is within its limits. One that isn't breaks the layout.
-fn is_within_limits(o: Outline, body: &[u8]) -> bool
-    ensures { result ≡ passes (stage_limits o body.now) }
-{
-    body.len() == 500
-        && o.substances <= 8
-        && o.stages <= 8
-        && head_fits(body)
-        && rest_fits(o.substances, body)
-}
-
-// Whether a kind 2 block's body is in its turn and within its limits, by the outline, which is `layout`'s, and the bytes alone.
-#[tactic(auto, unfolding(amounts::specs::Decline::checked))]
-pub fn check_stage(o: Outline, stage: u8, body: &[u8]) -> Result<(), Decline>
-    ensures { result ≡ checked (stage_checks o stage body.now) (tt {0}) }
-{
-    check(o.may_describe(stage), Decline::OutOfTurn)?;
-    check(is_within_limits(o, body), Decline::Layout)
 }
 
 impl Setup {

@@ -5,7 +5,7 @@ use Rattle.amounts.specs.Treatment.{parts_of}
 use Rattle.amounts.specs.declared.treatment.Parts.{Parts}
 use Rattle.encoding.specs.Each.{sum_to}
 use Rattle.plant.specs.Setup.{no_pair, no_stage}
-use Rattle.plant.specs.declared.setup.Rates.{Rates}
+use Rattle.bodies.specs.declared.stage.Rates.{Rates}
 use Rattle.plant.specs.declared.setup.Setup.{Setup}
 use Rattle.kinds.specs.declared.account.Account.TheVariants.{Held, Shipped, OffSite, Landfill, Soil, Consumed, Gas, Water, Vapour}
 use Rattle.book.specs.Ledger.{cell}

@@ -1,7 +1,7 @@
 // The filed figure: an amount in micrograms, the number of its case, its step, and the figure.
 use crate::line;
 use amounts::filed::{case_of, filed_figure, step_of};
-use std::io::{Print, Stdout};
+use std::io::Stdout;
 
 const AMOUNTS: [u64; 62] = [
     // Slips of the trade.
@@ -80,10 +80,9 @@ const AMOUNTS: [u64; 62] = [
 ];
 
 fn show(out: Stdout, amount: u64) {
-    let case = case_of(amount).number;
-    let step = step_of(amount);
-    let figure = filed_figure(amount);
-    let _ = println!(out; "{amount} {case} {step} {figure}");
+    let case = u64::from(case_of(amount).number);
+    line::numbers(out, &[amount, case, step_of(amount)]);
+    line::answer(out, Ok(filed_figure(amount)));
 }
 
 pub(crate) fn show_all(out: Stdout) {

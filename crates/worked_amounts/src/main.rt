@@ -13,17 +13,8 @@ mod vapour;
 
 fn main(rt: HostRuntime) {
     let out = rt.stdout();
-    vapour::worked(out);
-    vapour::operation_orders(out);
-    vapour::pressures(out);
-    vapour::floating_roof_ends(out);
-    vapour::fixed_roof_ends(out);
-    vapour::station_ends(out);
-    vapour::odd_floats(out);
-    vapour::declines(out);
-    mixtures::worked(out);
-    mixtures::ends(out);
-    mixtures::declines(out);
+    vapour::show_all(out);
+    mixtures::show_all(out);
     figures::show_all(out);
     splits::show_all(out);
     thresholds::show_all(out);

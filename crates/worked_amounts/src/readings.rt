@@ -1,12 +1,11 @@
 // A float read from its bits, in a range from 0 that has no end, and its whole part.
 use crate::line;
-use crate::line::Answer;
 use crate::patterns::{
     BELOW_ONE, BELOW_ZERO, INFINITY, LEAST, MINUS_INFINITY, MINUS_ZERO, NAN, ONE, ZERO,
 };
 use forms::pattern::{Range, read_float};
 use losses::whole::whole_part;
-use std::io::{Print, Stdout};
+use std::io::Stdout;
 
 const PATTERNS: [u64; 21] = [
     // Zero of either sign, and the least float.
@@ -46,8 +45,8 @@ const FROM_ZERO: Range = Range {
 };
 
 fn show(out: Stdout, bits: u64) {
-    let answer = Answer(read_float(bits, FROM_ZERO).map(whole_part));
-    let _ = println!(out; "{bits:016x} {answer}");
+    line::floats(out, &[bits]);
+    line::answer(out, read_float(bits, FROM_ZERO).map(whole_part));
 }
 
 pub(crate) fn show_all(out: Stdout) {

@@ -1,106 +1,108 @@
 // Declines 4, 5, 8, 9, 11 and 12, with the reports before and after.
-use crate::desk::Desk;
 use crate::patterns::{BILLION, HALF, ONE};
-use crate::posts::{
-    close, consumed, formed, gas, issued, landfill, off_site, opening, shipped, soil, vapour, water,
+use crate::posts::Entry::{
+    Close, Consumed, Formed, Gas, Issued, Landfill, OffSite, Opening, Shipped, Soil, Vapour, Water,
 };
-use crate::{line, sites};
-use book::site::Book;
-use std::io::Stdout;
+use crate::sites;
+use crate::sites::Start;
+use crate::steps::Step;
+use crate::steps::Step::{Bytes, Describe, On, Post, Report, Reports, Title};
 
 // 4: a post, the close or no bytes before the last stage is described.
-fn tried_early(d: &mut Desk) {
-    d.reports();
-    d.post(opening(0, 1));
-    d.post(close());
-    d.bytes(&[]);
-    d.reports();
-}
+const TRIED_EARLY: [Step; 5] = [
+    Reports,
+    Post(Opening(0, 1)),
+    Post(Close),
+    Bytes(&[]),
+    Reports,
+];
 
-pub(crate) fn turns(out: Stdout) {
-    line::title(out, "a fresh book");
-    tried_early(&mut Desk::on(out, Book::new()));
-    line::title(out, "a book with no stage described");
-    tried_early(&mut Desk::on(out, sites::set_up()));
-    line::title(out, "a book with one of two stages described");
-    let mut d = Desk::on(out, sites::set_up());
-    d.describe(0, &sites::stage());
-    tried_early(&mut d);
-}
+pub(crate) const TURNS: [&[Step]; 6] = [
+    &[Title("a fresh book")],
+    &TRIED_EARLY,
+    &[Title("a book with no stage described"), On(Start::SetUp)],
+    &TRIED_EARLY,
+    &[
+        Title("a book with one of two stages described"),
+        On(Start::SetUp),
+        Describe(0, &sites::STAGE),
+    ],
+    &TRIED_EARLY,
+];
 
 // 5: a good post, a second close, no bytes, and a post that breaks every rule.
-pub(crate) fn closed(out: Stdout) {
-    line::title(out, "a closed book");
-    let mut d = Desk::on(out, sites::closed());
-    d.reports();
-    d.post(opening(0, 1));
-    d.post(close());
-    d.bytes(&[]);
-    d.bytes(&[255; 48]);
-    d.reports();
-}
+pub(crate) const CLOSED: [Step; 8] = [
+    Title("a closed book"),
+    On(Start::Closed),
+    Reports,
+    Post(Opening(0, 1)),
+    Post(Close),
+    Bytes(&[]),
+    Bytes(&[255; 48]),
+    Reports,
+];
 
 // 8: forms 1 and 2 of 81, where the loss is 0 too; form 3 needs no row. 9: the floats above 2,000,000 kg, which 2,000,000 kg are not.
-pub(crate) fn losses(out: Stdout) {
-    line::title(out, "no coefficient row");
-    let mut d = Desk::on(out, sites::standing());
-    d.post(formed(1, 0, 2_000_000_000_000_000));
-    d.reports();
-    d.post(vapour(1, 0, 1, [ONE, 0, 0, 0]));
-    d.post(vapour(2, 0, 1, [0, 0, ONE, 0]));
-    d.reports();
-    d.post(vapour(3, 0, 1, [ONE, ONE, 0, 0]));
-    d.reports();
-    line::title(out, "losses over 2,000,000 kg");
-    d.post(vapour(3, 1, 0, [0x413e848000000001, ONE, 0, 0]));
-    d.post(vapour(3, 1, 0, [BILLION, ONE, ONE, ONE]));
-    d.reports();
-    d.post(vapour(3, 1, 0, [0x413e848000000000, ONE, 0, 0]));
-    d.reports();
-}
+pub(crate) const LOSSES: [Step; 15] = [
+    Title("no coefficient row"),
+    On(Start::Standing),
+    Post(Formed(1, 0, 2_000_000_000_000_000)),
+    Reports,
+    Post(Vapour(1, 0, 1, [ONE, 0, 0, 0])),
+    Post(Vapour(2, 0, 1, [0, 0, ONE, 0])),
+    Reports,
+    Post(Vapour(3, 0, 1, [ONE, ONE, 0, 0])),
+    Reports,
+    Title("losses over 2,000,000 kg"),
+    Post(Vapour(3, 1, 0, [0x413e848000000001, ONE, 0, 0])),
+    Post(Vapour(3, 1, 0, [BILLION, ONE, ONE, ONE])),
+    Reports,
+    Post(Vapour(3, 1, 0, [0x413e848000000000, ONE, 0, 0])),
+    Reports,
+];
 
 // 11: a gram more than the store holds, or a store that holds nothing. All of it may leave.
-pub(crate) fn stores(out: Stdout) {
-    line::title(out, "a store holds less");
-    let mut d = Desk::on(out, sites::standing());
-    d.reports();
-    d.post(issued(0, 0, 601));
-    d.post(issued(1, 0, 1));
-    d.post(issued(0, 1, 2_000_000_000));
-    d.reports();
-    d.post(issued(0, 1, 600));
-    d.post(issued(0, 1, 1));
-    d.reports();
-}
+pub(crate) const STORES: [Step; 10] = [
+    Title("a store holds less"),
+    On(Start::Standing),
+    Reports,
+    Post(Issued(0, 0, 601)),
+    Post(Issued(1, 0, 1)),
+    Post(Issued(0, 1, 2_000_000_000)),
+    Reports,
+    Post(Issued(0, 1, 600)),
+    Post(Issued(0, 1, 1)),
+    Reports,
+];
 
 // 11: each kind that takes from a holding, of which there are 160 g. All of it may leave.
-pub(crate) fn holdings(out: Stdout) {
-    line::title(out, "a holding is less");
-    let mut d = Desk::on(out, sites::standing());
-    d.reports();
-    d.post(shipped(0, 0, 1_000_000, 161));
-    d.post(off_site(0, 0, 160_001, 1_000));
-    d.post(landfill(0, 0, 1, 160_000_001));
-    d.post(soil(1, 0, 1, 1));
-    d.post(consumed(1, 1, 1_000_000, 2_000_000_000));
-    d.post(gas(0, 0, 1_000_000, 161));
-    d.post(water(0, 1, 1_000_000, 500_241));
+pub(crate) const HOLDINGS: [Step; 15] = [
+    Title("a holding is less"),
+    On(Start::Standing),
+    Reports,
+    Post(Shipped(0, 0, 1_000_000, 161)),
+    Post(OffSite(0, 0, 160_001, 1_000)),
+    Post(Landfill(0, 0, 1, 160_000_001)),
+    Post(Soil(1, 0, 1, 1)),
+    Post(Consumed(1, 1, 1_000_000, 2_000_000_000)),
+    Post(Gas(0, 0, 1_000_000, 161)),
+    Post(Water(0, 1, 1_000_000, 500_241)),
     // 0.5 kg.
-    d.post(vapour(3, 0, 0, [ONE, HALF, 0, 0]));
-    d.reports();
-    d.post(shipped(0, 0, 160_000, 1_000));
-    d.post(shipped(0, 0, 1, 1));
-    d.reports();
-}
+    Post(Vapour(3, 0, 0, [ONE, HALF, 0, 0])),
+    Reports,
+    Post(Shipped(0, 0, 160_000, 1_000)),
+    Post(Shipped(0, 0, 1, 1)),
+    Reports,
+];
 
 // 12: a place at the count of substances or above.
-pub(crate) fn unknown(out: Stdout) {
-    line::title(out, "substances that the book hasn't");
-    Desk::on(out, Book::new()).report(0);
-    let d = Desk::on(out, sites::standing());
-    d.report(1);
-    d.report(2);
-    d.report(8);
-    d.report(256);
-    d.report(18_446_744_073_709_551_615);
-}
+pub(crate) const UNKNOWN: [Step; 8] = [
+    Title("substances that the book hasn't"),
+    Report(0),
+    On(Start::Standing),
+    Report(1),
+    Report(2),
+    Report(8),
+    Report(256),
+    Report(18_446_744_073_709_551_615),
+];

@@ -1,102 +1,92 @@
-// What lines say. `worked_amounts` has an `Answer` too: a program isn't linked by another, and one short type is no library.
-use crate::posts::VAPOUR;
+// What lines say, piece by piece, which the check goes through faster than formats of many arguments. `worked_amounts` and `replay` have lines of
+// their own: a program isn't linked by another, and the libraries print none.
 use amounts::decline::Decline;
-use kinds::fields::Post;
 use report::report::Report;
-use std::fmt;
-use std::fmt::{Display, Formatter, Write};
 use std::io::{Print, Stdout};
 
-// The line over a group of calls.
+// A text alone: a line over a group of calls.
 pub(crate) fn title(out: Stdout, title: &str) {
     let _ = println!(out; "{title}");
 }
 
-// What a call answered: a value, or its decline.
-#[derive(Drop)]
-pub(crate) struct Answer<T>(pub Result<T, Decline>);
+// A text that a line goes on behind.
+pub(crate) fn word(out: Stdout, text: &str) {
+    let _ = print!(out; "{text}");
+}
 
-impl<T: Display> Display for Answer<T> {
-    fn fmt<W: Write>(&self, f: &mut Formatter<W>) -> fmt::Result {
-        match &self.0 {
-            Ok(value) => write!(f, "{value}"),
-            Err(decline) => write!(f, "declined {decline}"),
-        }
+// A word, and numbers with a space before each.
+pub(crate) fn begin(out: Stdout, text: &str, numbers: &[u64]) {
+    word(out, text);
+    list(out, numbers);
+}
+
+pub(crate) fn list(out: Stdout, numbers: &[u64]) {
+    for number in numbers {
+        let _ = print!(out; " {number}");
     }
 }
 
-pub(crate) fn verdict(answer: Result<(), Decline>) -> Answer<&'static str> {
-    Answer(answer.map(|()| "accepted"))
+// Floats by their bits.
+pub(crate) fn floats(out: Stdout, floats: &[u64]) {
+    for float in floats {
+        let _ = print!(out; " {float:016x}");
+    }
+}
+
+// The end of a line of a call that is taken or declined.
+pub(crate) fn verdict(out: Stdout, answer: Result<(), Decline>) {
+    match answer {
+        Ok(()) => title(out, ": accepted"),
+        Err(decline) => declined(out, decline),
+    }
+}
+
+fn declined(out: Stdout, decline: Decline) {
+    let _ = println!(out; ": declined {decline}");
 }
 
 // A difference in grams: 0, or with its sign.
-#[derive(Clone, Copy)]
-pub(crate) struct Difference(pub i64);
-
-impl Display for Difference {
-    fn fmt<W: Write>(&self, f: &mut Formatter<W>) -> fmt::Result {
-        match self.0 {
-            0 => write!(f, "0"),
-            grams => write!(f, "{grams:+}"),
+pub(crate) fn difference(out: Stdout, answer: Result<i64, Decline>) {
+    match answer {
+        Ok(0) => title(out, ": 0"),
+        Ok(grams) => {
+            let _ = println!(out; ": {grams:+}");
         }
-    }
-}
-
-// Kind, material, stage, substance, content and quantity, and the floats, by their bits, of vapour or where one is not zero.
-#[derive(Clone, Copy)]
-pub(crate) struct Fields(pub Post);
-
-impl Display for Fields {
-    fn fmt<W: Write>(&self, f: &mut Formatter<W>) -> fmt::Result {
-        let Post {
-            kind,
-            material,
-            stage,
-            substance,
-            content,
-            quantity,
-            w,
-            u,
-            p,
-            q,
-        } = self.0;
-        write!(
-            f,
-            "{kind} {material} {stage} {substance} {content} {quantity}"
-        )?;
-        if kind == VAPOUR || (w | u | p | q) != 0 {
-            write!(f, " {w:016x} {u:016x} {p:016x} {q:016x}")?;
-        }
-        Ok(())
+        Err(decline) => declined(out, decline),
     }
 }
 
 // Posts, number, handled, due, store, held, shipped, consumed, destroyed, the six headings and the six figures.
-#[derive(Clone, Copy)]
-pub(crate) struct Shown(pub Report);
-
-impl Display for Shown {
-    fn fmt<W: Write>(&self, f: &mut Formatter<W>) -> fmt::Result {
-        let Report {
-            posts,
-            number,
-            handled,
-            due,
-            store,
-            fate,
-            filed,
-        } = self.0;
-        let due = if due { 'Y' } else { 'N' };
-        write!(f, "{posts} {number} {handled} {due} {store}")?;
-        write!(
-            f,
-            " {} {} {} {}",
-            fate.held, fate.shipped, fate.consumed, fate.destroyed
-        )?;
-        write!(f, " {}", fate.headings)?;
-        match filed {
-            Some(figures) => write!(f, " {figures}"),
-            None => write!(f, " - - - - - -"),
+fn known(out: Stdout, r: Report) {
+    begin(
+        out,
+        ":",
+        &[u64::from(r.posts), u64::from(r.number), r.handled],
+    );
+    word(out, if r.due { " Y" } else { " N" });
+    let fate = r.fate;
+    list(
+        out,
+        &[
+            r.store,
+            fate.held,
+            fate.shipped,
+            fate.consumed,
+            fate.destroyed,
+        ],
+    );
+    let _ = print!(out; " {}", fate.headings);
+    match r.filed {
+        Some(figures) => {
+            let _ = println!(out; " {figures}");
         }
+        None => title(out, " - - - - - -"),
+    }
+}
+
+pub(crate) fn report(out: Stdout, answer: Result<Report, Decline>) {
+    match answer {
+        Ok(report) => known(out, report),
+        Err(decline) => declined(out, decline),
     }
 }

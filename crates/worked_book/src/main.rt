@@ -1,7 +1,8 @@
 // A site's book through the library's calls: what each call answers and what the reports show, a line for each.
 #![tactic(auto)]
 
-mod bodies;
+mod blocks;
+mod changes;
 mod counts;
 mod declines;
 mod desk;
@@ -17,44 +18,50 @@ mod sites;
 mod slips;
 mod sorting;
 mod stages;
-mod trials;
+mod steps;
 mod weighed;
 mod xylene;
 mod year;
 
+use steps::Step;
+
+// Each begins on a fresh book.
+const SECTIONS: [&[&[Step]]; 31] = [
+    &[&xylene::YEAR],
+    &weighed::LIST,
+    &year::ALL,
+    &[&sorting::YEAR],
+    &declines::TURNS,
+    &[&declines::CLOSED],
+    &[&declines::LOSSES],
+    &[&declines::STORES],
+    &[&declines::HOLDINGS],
+    &[&declines::UNKNOWN],
+    &[&fields::LENGTHS],
+    &[&fields::KINDS],
+    &[&fields::UNUSED],
+    &[&fields::INDICES],
+    &[&fields::LIMITS],
+    &[&floats::UNUSED],
+    &[&floats::FIRST_FORM],
+    &[&floats::OTHER_FORMS],
+    &[&orders::LAYOUT_FIRST],
+    &[&orders::FLOATS_FIRST],
+    &[&setups::COUNTS],
+    &[&setups::CHANGED],
+    &[&setups::TURNS],
+    &[&stages::CHANGED],
+    &[&stages::TURNS],
+    &[&slips::TWO_STAGES],
+    &[&slips::SPLIT_ONCE],
+    &[&slips::THRESHOLDS],
+    &[&limit::REACHED],
+    &counts::COUNTED,
+    &counts::FULL,
+];
+
 fn main(rt: HostRuntime) {
-    let out = rt.stdout();
-    xylene::year(out);
-    weighed::list(out);
-    year::all(out);
-    sorting::year(out);
-    declines::turns(out);
-    declines::closed(out);
-    declines::losses(out);
-    declines::stores(out);
-    declines::holdings(out);
-    declines::unknown(out);
-    fields::lengths(out);
-    fields::kinds(out);
-    fields::unused(out);
-    fields::indices(out);
-    fields::limits(out);
-    floats::unused(out);
-    floats::first_form(out);
-    floats::other_forms(out);
-    orders::layout_first(out);
-    orders::floats_first(out);
-    setups::counts(out);
-    setups::changes(out);
-    setups::pairs(out);
-    setups::turns(out);
-    stages::changes(out);
-    stages::limits(out);
-    stages::turns(out);
-    slips::two_stages(out);
-    slips::split_once(out);
-    slips::thresholds(out);
-    limit::reached(out);
-    counts::counted(out);
-    counts::full(out);
+    for section in SECTIONS {
+        desk::run(rt.stdout(), section);
+    }
 }

@@ -58,86 +58,51 @@ const BLANK: Post = Post {
     q: 0,
 };
 
-fn of_store(kind: u8, material: u8, grams: u64) -> Post {
+// A post by what its kind uses: a material, a stage, a substance, a content in ppm, and grams.
+#[derive(Clone, Copy)]
+pub(crate) enum Entry {
+    Opening(u8, u64),
+    Bought(u8, u64),
+    Issued(u8, u8, u64),
+    // In micrograms.
+    Formed(u8, u8, u64),
+    Shipped(u8, u8, u32, u64),
+    OffSite(u8, u8, u32, u64),
+    Landfill(u8, u8, u32, u64),
+    Soil(u8, u8, u32, u64),
+    Consumed(u8, u8, u32, u64),
+    Gas(u8, u8, u32, u64),
+    Water(u8, u8, u32, u64),
+    // The form, which stands in the material's place, a stage and a substance, and the floats w, u, p and q.
+    Vapour(u8, u8, u8, [u64; 4]),
+    Close,
+    Found(u8, u8, u32, u64),
+}
+
+fn of_store(kind: u8, material: u8, stage: u8, grams: u64) -> Post {
     Post {
         kind,
         material,
+        stage,
         quantity: grams,
         ..BLANK
     }
 }
 
-pub(crate) fn opening(material: u8, grams: u64) -> Post {
-    of_store(OPENING, material, grams)
-}
-
-pub(crate) fn bought(material: u8, grams: u64) -> Post {
-    of_store(BOUGHT, material, grams)
-}
-
-pub(crate) fn issued(material: u8, stage: u8, grams: u64) -> Post {
-    Post {
-        stage,
-        ..of_store(ISSUED, material, grams)
-    }
-}
-
-pub(crate) fn formed(stage: u8, substance: u8, micrograms: u64) -> Post {
-    Post {
-        kind: FORMED,
-        stage,
-        substance,
-        quantity: micrograms,
-        ..BLANK
-    }
-}
-
-// Of a kind that states a content, in ppm.
-fn of_content(kind: u8, stage: u8, substance: u8, content: u32, grams: u64) -> Post {
+// Of a kind that states a content, and of what is formed.
+fn of_content(kind: u8, stage: u8, substance: u8, content: u32, quantity: u64) -> Post {
     Post {
         kind,
         stage,
         substance,
         content,
-        quantity: grams,
+        quantity,
         ..BLANK
     }
 }
 
-pub(crate) fn shipped(stage: u8, substance: u8, content: u32, grams: u64) -> Post {
-    of_content(SHIPPED, stage, substance, content, grams)
-}
-
-pub(crate) fn off_site(stage: u8, substance: u8, content: u32, grams: u64) -> Post {
-    of_content(OFF_SITE, stage, substance, content, grams)
-}
-
-pub(crate) fn landfill(stage: u8, substance: u8, content: u32, grams: u64) -> Post {
-    of_content(LANDFILL, stage, substance, content, grams)
-}
-
-pub(crate) fn soil(stage: u8, substance: u8, content: u32, grams: u64) -> Post {
-    of_content(SOIL, stage, substance, content, grams)
-}
-
-pub(crate) fn consumed(stage: u8, substance: u8, content: u32, grams: u64) -> Post {
-    of_content(CONSUMED, stage, substance, content, grams)
-}
-
-pub(crate) fn gas(stage: u8, substance: u8, content: u32, grams: u64) -> Post {
-    of_content(GAS, stage, substance, content, grams)
-}
-
-pub(crate) fn water(stage: u8, substance: u8, content: u32, grams: u64) -> Post {
-    of_content(WATER, stage, substance, content, grams)
-}
-
-pub(crate) fn found(stage: u8, substance: u8, content: u32, grams: u64) -> Post {
-    of_content(FOUND, stage, substance, content, grams)
-}
-
-// The floats are w, u, p and q: named, as `Inputs` has them, a call would be six lines. The form stands in the material's place.
-pub(crate) fn vapour(form: u8, stage: u8, substance: u8, [w, u, p, q]: [u64; 4]) -> Post {
+fn of_vapour(form: u8, stage: u8, substance: u8, floats: [u64; 4]) -> Post {
+    let [w, u, p, q] = floats;
     Post {
         kind: VAPOUR,
         material: form,
@@ -151,15 +116,32 @@ pub(crate) fn vapour(form: u8, stage: u8, substance: u8, [w, u, p, q]: [u64; 4])
     }
 }
 
-pub(crate) fn close() -> Post {
-    Post {
-        kind: CLOSE,
-        ..BLANK
+impl Entry {
+    pub(crate) fn post(self) -> Post {
+        match self {
+            Entry::Opening(m, grams) => of_store(OPENING, m, 0, grams),
+            Entry::Bought(m, grams) => of_store(BOUGHT, m, 0, grams),
+            Entry::Issued(m, stage, grams) => of_store(ISSUED, m, stage, grams),
+            Entry::Formed(stage, s, micrograms) => of_content(FORMED, stage, s, 0, micrograms),
+            Entry::Shipped(stage, s, ppm, grams) => of_content(SHIPPED, stage, s, ppm, grams),
+            Entry::OffSite(stage, s, ppm, grams) => of_content(OFF_SITE, stage, s, ppm, grams),
+            Entry::Landfill(stage, s, ppm, grams) => of_content(LANDFILL, stage, s, ppm, grams),
+            Entry::Soil(stage, s, ppm, grams) => of_content(SOIL, stage, s, ppm, grams),
+            Entry::Consumed(stage, s, ppm, grams) => of_content(CONSUMED, stage, s, ppm, grams),
+            Entry::Gas(stage, s, ppm, grams) => of_content(GAS, stage, s, ppm, grams),
+            Entry::Water(stage, s, ppm, grams) => of_content(WATER, stage, s, ppm, grams),
+            Entry::Vapour(form, stage, s, floats) => of_vapour(form, stage, s, floats),
+            Entry::Close => Post {
+                kind: CLOSE,
+                ..BLANK
+            },
+            Entry::Found(stage, s, ppm, grams) => of_content(FOUND, stage, s, ppm, grams),
+        }
     }
 }
 
 // A post of each kind that the book of `sites` takes, and blank ones of others.
-pub(crate) fn good(kind: u8) -> Post {
+fn good(kind: u8) -> Post {
     match kind {
         OPENING..=FORMED => Post {
             kind,
@@ -167,7 +149,7 @@ pub(crate) fn good(kind: u8) -> Post {
             ..BLANK
         },
         SHIPPED..=WATER | FOUND => of_content(kind, 0, 0, 1, 1),
-        VAPOUR => vapour(3, 0, 0, [0; 4]),
+        VAPOUR => of_vapour(3, 0, 0, [0; 4]),
         _ => Post { kind, ..BLANK },
     }
 }
@@ -175,6 +157,8 @@ pub(crate) fn good(kind: u8) -> Post {
 // A field with what it is changed to.
 #[derive(Clone, Copy)]
 pub(crate) enum Field {
+    // None: the post as it is.
+    Same,
     Kind(u8),
     Material(u8),
     Stage(u8),
@@ -187,8 +171,9 @@ pub(crate) enum Field {
     Q(u64),
 }
 
-pub(crate) fn changed(given: Post, field: Field) -> Post {
+fn changed(given: Post, field: Field) -> Post {
     match field {
+        Field::Same => given,
         Field::Kind(kind) => Post { kind, ..given },
         Field::Material(material) => Post { material, ..given },
         Field::Stage(stage) => Post { stage, ..given },
@@ -200,4 +185,9 @@ pub(crate) fn changed(given: Post, field: Field) -> Post {
         Field::P(p) => Post { p, ..given },
         Field::Q(q) => Post { q, ..given },
     }
+}
+
+// The good post of a kind with a field changed.
+pub(crate) fn tried(kind: u8, field: Field) -> Post {
+    changed(good(kind), field)
 }

@@ -1,116 +1,93 @@
 // Kind 1: a body that is taken, and each rule of its layout broken alone.
-use crate::bodies::Change;
-use crate::desk::Desk;
-use crate::{bodies, line, sites};
-use book::site::Book;
-use std::io::{Print, Stdout};
+use crate::blocks::Kind;
+use crate::changes::Change;
+use crate::changes::Change::{Byte, Contents, Numbers};
+use crate::sites::{PLANT, Start};
+use crate::steps::Step;
+use crate::steps::Step::{Cut, On, Reports, SetUp, SetUps, Title, Word};
 
-// The counts of substances that the good body is tried with.
-const COUNTS: [u8; 6] = [2, 0, 1, 3, 9, 255];
+// The good body as it is, with each count of substances.
+pub(crate) const COUNTS: [Step; 7] = [
+    Title("set-ups"),
+    SetUps(2, &[SAME]),
+    SetUps(0, &[SAME]),
+    SetUps(1, &[SAME]),
+    SetUps(3, &[SAME]),
+    SetUps(9, &[SAME]),
+    SetUps(255, &[SAME]),
+];
 
 // The first byte of the good body as it is.
-const SAME: Change = Change { at: 0, byte: 2 };
+const SAME: Change = Byte(0, 2);
 
 const CHANGES: [Change; 26] = [
     // Materials: a third and a twelfth without content are taken, and one too few leaves contents in an unused place.
-    Change { at: 0, byte: 0 },
-    Change { at: 0, byte: 1 },
-    Change { at: 0, byte: 3 },
-    Change { at: 0, byte: 12 },
-    Change { at: 0, byte: 13 },
+    Byte(0, 0),
+    Byte(0, 1),
+    Byte(0, 3),
+    Byte(0, 12),
+    Byte(0, 13),
     // Stages.
-    Change { at: 1, byte: 0 },
-    Change { at: 1, byte: 1 },
-    Change { at: 1, byte: 8 },
-    Change { at: 1, byte: 9 },
+    Byte(1, 0),
+    Byte(1, 1),
+    Byte(1, 8),
+    Byte(1, 9),
     // Unused numbers.
-    Change { at: 6, byte: 1 },
-    Change { at: 17, byte: 1 },
+    Byte(6, 1),
+    Byte(17, 1),
     // Classes, and unused ones.
-    Change { at: 18, byte: 0 },
-    Change { at: 18, byte: 2 },
-    Change { at: 18, byte: 3 },
-    Change { at: 19, byte: 0 },
-    Change { at: 19, byte: 1 },
-    Change { at: 19, byte: 255 },
-    Change { at: 20, byte: 1 },
-    Change { at: 25, byte: 2 },
+    Byte(18, 0),
+    Byte(18, 2),
+    Byte(18, 3),
+    Byte(19, 0),
+    Byte(19, 1),
+    Byte(19, 255),
+    Byte(20, 1),
+    Byte(25, 2),
     // A ppm more in the first material, which is full.
-    Change { at: 26, byte: 129 },
+    Byte(26, 129),
     // A third and an eighth substance, a third and a twelfth material.
-    Change { at: 66, byte: 1 },
-    Change { at: 86, byte: 1 },
-    Change { at: 90, byte: 1 },
-    Change { at: 409, byte: 1 },
+    Byte(66, 1),
+    Byte(86, 1),
+    Byte(90, 1),
+    Byte(409, 1),
     // Bytes not named.
-    Change { at: 410, byte: 1 },
-    Change { at: 499, byte: 1 },
+    Byte(410, 1),
+    Byte(499, 1),
 ];
 
-fn try_changes(out: Stdout, count: u8, changes: &[Change]) {
-    bodies::try_changes(out, sites::plant(), changes, |body| {
-        Desk::on(out, Book::new()).set_up(count, body)
-    });
-}
-
-pub(crate) fn counts(out: Stdout) {
-    line::title(out, "set-ups");
-    for count in COUNTS {
-        try_changes(out, count, &[SAME]);
-    }
-}
-
-pub(crate) fn changes(out: Stdout) {
-    try_changes(out, 2, &CHANGES);
-}
-
-fn numbered(out: Stdout, first: u16, second: u16) {
-    let body = sites::plant()
-        .substance(0, first, 1)
-        .substance(1, second, 2);
-    let _ = print!(out; "numbers {first} {second} ");
-    Desk::on(out, Book::new()).set_up(2, &body);
-}
-
-// The contents of the second material.
-fn containing(out: Stdout, first: u32, second: u32) {
-    let body = sites::plant().content(1, 0, first).content(1, 1, second);
-    let _ = print!(out; "contents {first} {second} ");
-    Desk::on(out, Book::new()).set_up(2, &body);
-}
-
-pub(crate) fn pairs(out: Stdout) {
-    numbered(out, 1, 2);
-    numbered(out, 0, 81);
-    numbered(out, 81, 81);
-    numbered(out, 82, 81);
+const PAIRS: [Change; 13] = [
+    Numbers(1, 2),
+    Numbers(0, 81),
+    Numbers(81, 81),
+    Numbers(82, 81),
     // The lower byte rises and the number falls; and the other way.
-    numbered(out, 256, 255);
-    numbered(out, 255, 256);
-    numbered(out, 65_534, 65_535);
-    containing(out, 0, 0);
-    containing(out, 1_000_000, 0);
-    containing(out, 1_000_000, 1);
-    containing(out, 1_000_001, 0);
+    Numbers(256, 255),
+    Numbers(255, 256),
+    Numbers(65_534, 65_535),
+    Contents(0, 0),
+    Contents(1_000_000, 0),
+    Contents(1_000_000, 1),
+    Contents(1_000_001, 0),
     // Sums past 32 bits.
-    containing(out, 4_294_967_295, 1);
-    containing(out, 2_147_483_648, 2_147_483_648);
-}
+    Contents(4_294_967_295, 1),
+    Contents(2_147_483_648, 2_147_483_648),
+];
+
+pub(crate) const CHANGED: [Step; 2] = [SetUps(2, &CHANGES), SetUps(2, &PAIRS)];
 
 // 6 for a length; 4 once set up, whatever the body, and on a closed book.
-pub(crate) fn turns(out: Stdout) {
-    let body = sites::plant();
-    let mut d = Desk::on(out, Book::new());
-    d.set_up_of(2, &body.bytes[..499]);
-    d.set_up_of(2, &[0; 501]);
-    d.reports();
-    d.set_up(2, &body);
-    d.reports();
-    d.set_up(2, &body);
-    d.set_up_of(9, &[]);
-    d.reports();
-    let _ = print!(out; "closed ");
-    d = Desk::on(out, sites::closed());
-    d.set_up(2, &body);
-    d.reports();
-}
+pub(crate) const TURNS: [Step; 12] = [
+    Cut(Kind::SetUp, 2, &PLANT, 499),
+    Cut(Kind::SetUp, 2, &[], 501),
+    Reports,
+    SetUp(2, &PLANT),
+    Reports,
+    SetUp(2, &PLANT),
+    Cut(Kind::SetUp, 9, &[], 0),
+    Reports,
+    Word("closed "),
+    On(Start::Closed),
+    SetUp(2, &PLANT),
+    Reports,
+];

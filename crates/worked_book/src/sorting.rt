@@ -6,36 +6,39 @@
 //     1,000 kg off site, the step being 100.
 //   400: found 500,000 × 999,999 = 499,999,500,000 and 499,999 × 1, which makes 499,999,999,999, a microgram below 500 kg: not due.
 //   Nothing is held before or after, so that the close moves nothing.
-use crate::bodies::{Body, Residues, Side, Water};
-use crate::desk::Desk;
-use crate::line;
-use crate::posts::{close, found};
-use book::site::Book;
-use std::io::Stdout;
+use crate::blocks::Part::{Counts, Substance, Treated, Ways};
+use crate::blocks::{Part, ResiduesTo, Side, WaterTo};
+use crate::posts::Entry::{Close, Found};
+use crate::steps::Step;
+use crate::steps::Step::{Describe, Post, Reports, SetUp, Title};
 
-pub(crate) fn year(out: Stdout) {
-    line::title(out, "a sorting site");
-    let plant = Body::of_plant(1, 2)
-        .substance(0, 80, 1)
-        .substance(1, 400, 2);
-    let first = Body::of_stage(Water::Public, Residues::Landfill)
-        .untreated(0, Side::Gas)
-        .untreated(1, Side::Gas);
-    let second = Body::of_stage(Water::Sewer, Residues::OffSite)
-        .untreated(0, Side::WasteWater)
-        .untreated(1, Side::WasteWater);
-    let mut d = Desk::on(out, Book::new());
-    d.set_up(2, &plant);
-    d.describe(0, &first);
-    d.describe(1, &second);
-    d.post(found(0, 0, 450_000, 2_000_000));
-    d.post(found(1, 0, 21_649, 4_619_151));
-    d.post(found(0, 1, 999_999, 500_000));
-    d.post(found(1, 1, 1, 499_999));
-    d.reports();
-    d.post(found(1, 0, 1, 1));
-    d.reports();
-    d.post(close());
-    d.post(found(1, 1, 1, 1));
-    d.reports();
-}
+const PLANT: [Part; 3] = [Counts(1, 2), Substance(0, 80, 1), Substance(1, 400, 2)];
+
+const FIRST: [Part; 3] = [
+    Ways(WaterTo::Public, ResiduesTo::Landfill),
+    Treated(0, Side::Gas, [0; 4]),
+    Treated(1, Side::Gas, [0; 4]),
+];
+
+const SECOND: [Part; 3] = [
+    Ways(WaterTo::Sewer, ResiduesTo::OffSite),
+    Treated(0, Side::WasteWater, [0; 4]),
+    Treated(1, Side::WasteWater, [0; 4]),
+];
+
+pub(crate) const YEAR: [Step; 14] = [
+    Title("a sorting site"),
+    SetUp(2, &PLANT),
+    Describe(0, &FIRST),
+    Describe(1, &SECOND),
+    Post(Found(0, 0, 450_000, 2_000_000)),
+    Post(Found(1, 0, 21_649, 4_619_151)),
+    Post(Found(0, 1, 999_999, 500_000)),
+    Post(Found(1, 1, 1, 499_999)),
+    Reports,
+    Post(Found(1, 0, 1, 1)),
+    Reports,
+    Post(Close),
+    Post(Found(1, 1, 1, 1)),
+    Reports,
+];

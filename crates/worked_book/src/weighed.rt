@@ -12,78 +12,73 @@
 //     Second stage: came 750; left 150 to gas, 400 shipped; 200 remain, and close to gas.
 //       Gas 150 + 200 = 350: removed nine tenths, 315, none destroyed; released 35, to air; residue 315, to landfill.
 //     They add up to 750 with the 400 shipped; filed 35 and 320.
-use crate::bodies::{Body, Residues, Side, Water, rates};
-use crate::desk::Desk;
-use crate::line;
+use crate::blocks::Part::{Content, Counts, Substance, Treated, Ways};
+use crate::blocks::{Part, ResiduesTo, Side, WaterTo};
 use crate::patterns::{HALF, HUNDRED};
-use crate::posts::{
-    bought, close, consumed, formed, gas, issued, landfill, off_site, opening, shipped, soil,
-    vapour, water,
+use crate::posts::Entry::{
+    Bought, Close, Consumed, Formed, Gas, Issued, Landfill, OffSite, Opening, Shipped, Soil,
+    Vapour, Water,
 };
-use book::site::Book;
-use std::io::Stdout;
+use crate::steps::Step;
+use crate::steps::Step::{Describe, Post, Reports, SetUp, Title};
 
-fn opened(out: Stdout) -> Desk {
-    let plant = Body::of_plant(2, 2)
-        .substance(0, 300, 1)
-        .substance(1, 400, 2)
-        .content(0, 0, 200_000)
-        .content(0, 1, 999)
-        .content(1, 0, 9_999)
-        .content(1, 1, 500_000);
-    let first = Body::of_stage(Water::Public, Residues::OffSite)
-        .treated(0, Side::Gas, rates(500_000, 250_000, 200_000, 0))
-        .treated(1, Side::WasteWater, rates(0, 0, 750_000, 500_000));
-    let second = Body::of_stage(Water::Sewer, Residues::Landfill)
-        .treated(
-            0,
-            Side::WasteWater,
-            rates(100_000, 1_000_000, 400_000, 500_000),
-        )
-        .treated(1, Side::Gas, rates(900_000, 0, 0, 0));
-    let mut d = Desk::on(out, Book::new());
-    d.set_up(2, &plant);
-    d.describe(0, &first);
-    d.describe(1, &second);
-    d
-}
+const PLANT: [Part; 7] = [
+    Counts(2, 2),
+    Substance(0, 300, 1),
+    Substance(1, 400, 2),
+    Content(0, 0, 200_000),
+    Content(0, 1, 999),
+    Content(1, 0, 9_999),
+    Content(1, 1, 500_000),
+];
+
+const FIRST: [Part; 3] = [
+    Ways(WaterTo::Public, ResiduesTo::OffSite),
+    Treated(0, Side::Gas, [500_000, 250_000, 200_000, 0]),
+    Treated(1, Side::WasteWater, [0, 0, 750_000, 500_000]),
+];
+
+const SECOND: [Part; 3] = [
+    Ways(WaterTo::Sewer, ResiduesTo::Landfill),
+    Treated(0, Side::WasteWater, [100_000, 1_000_000, 400_000, 500_000]),
+    Treated(1, Side::Gas, [900_000, 0, 0, 0]),
+];
+
+const OPENED: [Step; 4] = [
+    Title("a list worked from its posts"),
+    SetUp(2, &PLANT),
+    Describe(0, &FIRST),
+    Describe(1, &SECOND),
+];
 
 // The second issue of the first material to the first stage is more than is there.
-fn received(d: &mut Desk) {
-    d.post(opening(0, 1_000_000));
-    d.post(bought(0, 4_000_000));
-    d.post(bought(1, 2_000_000));
-    d.post(issued(0, 0, 3_000_000));
-    d.post(issued(0, 1, 1_000_000));
-    d.post(issued(0, 0, 2_000_000));
-    d.post(issued(1, 1, 1_500_000));
-    d.post(formed(0, 0, 300_000_000_000));
-}
+const RECEIVED: [Step; 8] = [
+    Post(Opening(0, 1_000_000)),
+    Post(Bought(0, 4_000_000)),
+    Post(Bought(1, 2_000_000)),
+    Post(Issued(0, 0, 3_000_000)),
+    Post(Issued(0, 1, 1_000_000)),
+    Post(Issued(0, 0, 2_000_000)),
+    Post(Issued(1, 1, 1_500_000)),
+    Post(Formed(0, 0, 300_000_000_000)),
+];
 
 // The second post to gas states no content.
-fn moved(d: &mut Desk) {
-    d.post(shipped(0, 0, 200_000, 1_000_000));
-    d.post(off_site(0, 0, 50_000, 100_000));
-    d.post(landfill(1, 0, 100_000, 50_000));
-    d.post(soil(1, 0, 10_000, 1_000));
-    d.post(consumed(0, 0, 95_000, 1_000_000));
-    d.post(gas(0, 0, 100_000, 500_000));
-    d.post(gas(0, 0, 0, 500_000));
-    d.post(water(1, 0, 50_000, 200_000));
-    d.post(vapour(3, 0, 0, [HUNDRED, HALF, 0, 0]));
-    d.post(gas(1, 1, 500_000, 300_000));
-    d.post(shipped(1, 1, 400_000, 1_000_000));
-}
+const MOVED: [Step; 11] = [
+    Post(Shipped(0, 0, 200_000, 1_000_000)),
+    Post(OffSite(0, 0, 50_000, 100_000)),
+    Post(Landfill(1, 0, 100_000, 50_000)),
+    Post(Soil(1, 0, 10_000, 1_000)),
+    Post(Consumed(0, 0, 95_000, 1_000_000)),
+    Post(Gas(0, 0, 100_000, 500_000)),
+    Post(Gas(0, 0, 0, 500_000)),
+    Post(Water(1, 0, 50_000, 200_000)),
+    Post(Vapour(3, 0, 0, [HUNDRED, HALF, 0, 0])),
+    Post(Gas(1, 1, 500_000, 300_000)),
+    Post(Shipped(1, 1, 400_000, 1_000_000)),
+];
 
 // What is bought after the close is refused.
-pub(crate) fn list(out: Stdout) {
-    line::title(out, "a list worked from its posts");
-    let mut d = opened(out);
-    received(&mut d);
-    moved(&mut d);
-    d.reports();
-    d.post(close());
-    d.reports();
-    d.post(bought(0, 1));
-    d.reports();
-}
+const ENDED: [Step; 5] = [Reports, Post(Close), Reports, Post(Bought(0, 1)), Reports];
+
+pub(crate) const LIST: [&[Step]; 4] = [&OPENED, &RECEIVED, &MOVED, &ENDED];

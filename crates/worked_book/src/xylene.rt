@@ -3,28 +3,29 @@
 //   handled: issued 1,215 and nothing formed, which is due in class 1 from 1,000;
 //   shipped 990, so the stage holds 1,215 - 990 = 225 until the close moves them to gas, its side;
 //   with all rates 0 the 225 are released to air, and filed as 230, the step being 10.
-use crate::bodies::{Body, Residues, Side, Water};
-use crate::desk::Desk;
-use crate::line;
-use crate::posts::{bought, close, issued, opening, shipped};
-use book::site::Book;
-use std::io::Stdout;
+use crate::blocks::Part::{Content, Counts, Substance, Treated, Ways};
+use crate::blocks::{Part, ResiduesTo, Side, WaterTo};
+use crate::posts::Entry::{Bought, Close, Issued, Opening, Shipped};
+use crate::steps::Step;
+use crate::steps::Step::{Describe, Post, Report, SetUp, Title};
 
-pub(crate) fn year(out: Stdout) {
-    line::title(out, "xylene");
-    let plant = Body::of_plant(1, 1)
-        .substance(0, 80, 1)
-        .content(0, 0, 450_000);
-    let stage = Body::of_stage(Water::Public, Residues::OffSite).untreated(0, Side::Gas);
-    let mut d = Desk::on(out, Book::new());
-    d.set_up(1, &plant);
-    d.describe(0, &stage);
-    d.report(0);
-    d.post(opening(0, 500_000));
-    d.post(bought(0, 2_500_000));
-    d.post(issued(0, 0, 2_700_000));
-    d.post(shipped(0, 0, 450_000, 2_200_000));
-    d.report(0);
-    d.post(close());
-    d.report(0);
-}
+const PLANT: [Part; 3] = [Counts(1, 1), Substance(0, 80, 1), Content(0, 0, 450_000)];
+
+const STAGE: [Part; 2] = [
+    Ways(WaterTo::Public, ResiduesTo::OffSite),
+    Treated(0, Side::Gas, [0; 4]),
+];
+
+pub(crate) const YEAR: [Step; 11] = [
+    Title("xylene"),
+    SetUp(1, &PLANT),
+    Describe(0, &STAGE),
+    Report(0),
+    Post(Opening(0, 500_000)),
+    Post(Bought(0, 2_500_000)),
+    Post(Issued(0, 0, 2_700_000)),
+    Post(Shipped(0, 0, 450_000, 2_200_000)),
+    Report(0),
+    Post(Close),
+    Report(0),
+];

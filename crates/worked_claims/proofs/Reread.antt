@@ -11,7 +11,8 @@ use Rattle.amounts.specs.declared.decline.Decline.TheVariants.{Short}
 use Rattle.encoding.specs.Bytes.{le, written, placed}
 use Rattle.encoding.specs.Each.{sum_to, all_to, list_to, put_to}
 use Rattle.plant.specs.Setup.{set_up_on}
-use Rattle.plant.specs.Stage.{second_of, rates_at, described_on}
+use Rattle.bodies.specs.Stage.{second_of, rates_at}
+use Rattle.plant.specs.Stage.{described_on}
 use Rattle.kinds.specs.Fields.{post_at}
 use Rattle.post.specs.Moves.{measured}
 use Rattle.book.specs.Block.{block_on}

@@ -1,80 +1,9 @@
 // A journal from records: reads a list of records from standard input, and writes the journal of those that are taken on standard output.
 #![tactic(auto)]
 
-ghost use Rattle.std.specs.Prelude.{◌≡◌, IfOk, OnOk, IfSome, IsErrOf, true};
-ghost use Rattle.std.specs.Io.KnownBytes.{Appends};
-ghost use Rattle.streams.specs.Input.{bytes_left};
-ghost use Rattle.streams.specs.Output.{has_failed, bytes_in};
-ghost use Rattle.records.specs.Records.{records_in};
-ghost use Rattle.writer.specs.Writer.{page};
-ghost use Rattle.write.specs.Run.{line_of, page_after, journal_of};
-
-use records::call;
-use records::refusal::Refusal;
-use std::io;
-use std::io::{ErrorKind, Read, Write};
 use streams::input::Input;
 use streams::output::Output;
-use streams::record::RecordError;
-use streams::trouble::Trouble;
-use writer::writer::Writer;
-
-/// The line of a record that isn't taken.
-fn tell<E: Write>(errors: &mut E, place: u64, refusal: Refusal) -> io::Result<()>
-    ensures { OnOk result (Appends (E.contents errors.old) (E.contents errors.new) (line_of place refusal)) }
-{
-    writeln!(errors, "record {place} {refusal}")
-}
-
-/// Takes the records up to the end of the input or to a malformed one, and tells of those that aren't taken.
-fn take_records<R: Read, E: Write>(
-    input: &mut Input<R>,
-    writer: &mut Writer<'_>,
-    errors: &mut E,
-) -> io::Result<()>
-    ensures lent { writer.new.buffer.ghost_name ≡ writer.old.buffer.ghost_name }
-    ensures taken { IfOk result (λ _. IfSome (bytes_left R.remaining input.old) (λ s. page writer.new ≡ page_after (page writer.old) (records_in s))) }
-{
-    let mut space = [0; 65536];
-    for place in 0..u64::MAX {
-        let taken = match input.read_record(&mut space) {
-            Ok(None) => return Ok(()),
-            Ok(Some(record)) => call::take(writer, record.tag, record.body),
-            Err(RecordError::Malformed) => Err(Refusal::Malformed),
-            Err(RecordError::Unread(e)) => return Err(e),
-        };
-        if let Err(refusal) = taken {
-            let _ = tell(errors, place, refusal);
-            if refusal == Refusal::Malformed {
-                return Ok(());
-            }
-        }
-    }
-    Err(ErrorKind::Other.into())
-}
-
-/// Writes the journal of the records that are taken, made in a lent buffer; nothing where the input can't be read.
-fn run<R: Read, W: Write, E: Write>(
-    input: &mut Input<R>,
-    output: &mut Output<W>,
-    errors: &mut E,
-    buffer: &mut [u8],
-) -> Result<(), Trouble>
-    ensures written { OnOk result (IfSome (bytes_left R.remaining input.old)
-        (λ s. Appends (bytes_in W.contents output.old) (bytes_in W.contents output.new) (journal_of buffer.old s))) }
-    ensures unread { IsErrOf result Trouble.Unread → output.new ≡ output.old }
-    ensures unwritten { IsErrOf result Trouble.Unwritten → has_failed output.new ≡ true }
-{
-    let mut writer = Writer::new(buffer);
-    take_records(input, &mut writer, errors).map_err(|_| Trouble::Unread)?;
-    let filled = writer.end();
-
-    // What is filled is within the buffer, which the writer lends until its end and then no more.
-    if let Some(journal) = buffer.get(..filled) {
-        output.write_all(journal).map_err(|_| Trouble::Unwritten)?;
-    }
-    Ok(())
-}
+use write_run::run;
 
 fn main(rt: HostRuntime) {
     let mut input = Input::new(rt.stdin());
@@ -82,7 +11,12 @@ fn main(rt: HostRuntime) {
 
     // The journal has room for 4,096 blocks.
     let mut buffer = [0; 2097152];
-    if let Err(trouble) = run(&mut input, &mut output, &mut rt.stderr(), &mut buffer) {
+    if let Err(trouble) = run::write_journal(
+        &mut input,
+        &mut output,
+        &mut rt.stderr(),
+        buffer.as_mut_slice(),
+    ) {
         let _ = eprintln!(rt; "write: {trouble}");
     }
 }

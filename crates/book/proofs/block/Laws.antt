@@ -7,7 +7,7 @@ use lib.ListN.{get_or}
 use Rattle.std.specs.Prelude.{Ok, Err}
 use Rattle.amounts.specs.Decline.{Answer, value_or, verdict_of}
 use Rattle.amounts.specs.declared.decline.Decline.{Decline}
-use Rattle.amounts.proofs.decline.Laws.{was_taken}
+use Rattle.amounts.proofs.decline.Laws.{was_taken, was_err, was_ok}
 use Rattle.layout.specs.Frame.{block_kind, count_of, body_of, held_at}
 use Rattle.layout.specs.Holds.{holds_of}
 use Rattle.layout.specs.Posts.{post_in}
@@ -20,14 +20,17 @@ use Rattle.plant.specs.Stage.{with_stage, described_on}
 use Rattle.plant.specs.declared.setup.Setup.{Setup}
 use Rattle.layout.proofs.frame.Laws.{Framed, held_framed, number_small}
 use Rattle.layout.proofs.posts.Laws.{Owned}
-use Rattle.book.specs.Block.{setup_by, on_setup, on_year, by_holds, block_on}
+use Rattle.plant.specs.Part.{setup_by}
+use Rattle.book.specs.Block.{on_setup, on_year, by_holds, block_on}
 use Rattle.book.specs.Posts.{taken_to, posts_on}
 use Rattle.book.specs.Site.{Book, Sound, SoundYear, book_with}
 use Rattle.book.specs.declared.site.Year.{Year}
-use Rattle.book.proofs.posts.Laws.{was_err, was_ok, many_sound, posts_taken_lem}
-use Rattle.plant.proofs.setup.Taken as first
+use Rattle.book.proofs.posts.Laws.{many_sound, posts_taken_lem}
+use Rattle.bodies.proofs.setup.Taken as first
+use Rattle.plant.proofs.setup.Taken.{sound_set_up}
 use Rattle.book.proofs.site.Laws.{sound_before}
-use Rattle.plant.proofs.stage.Taken as stage
+use Rattle.bodies.proofs.stage.Taken as stage
+use Rattle.plant.proofs.stage.Taken.{sound_stage}
 
 -- ---- through the frame
 
@@ -125,11 +128,11 @@ pub done_sound : (b c : Book) (s : List ℕ) → SoundParts b.setup b.year → D
 done_sound b c s h (set_up k a is) =
     let none = h.year.none_before (first.not_yet b.setup.outline a.none) in
     rw is
-    (record { setup = first.sound_set_up b.setup.outline (count_of s) (body_of s) a; year = sound_before b.setup (setup_of (count_of s) (body_of s)) b.year h.year none })
+    (record { setup = sound_set_up b.setup.outline (count_of s) (body_of s) a; year = sound_before b.setup (setup_of (count_of s) (body_of s)) b.year h.year none })
 done_sound b c s h (described k a is) =
     let none = h.year.none_before (stage.not_yet b.setup.outline a.left) in
     rw is
-    (record { setup = stage.sound_stage b.setup (count_of s) (body_of s) h.setup a; year = sound_before b.setup (with_stage b.setup (count_of s) (body_of s)) b.year h.year none })
+    (record { setup = sound_stage b.setup (count_of s) (body_of s) h.setup a; year = sound_before b.setup (with_stage b.setup (count_of s) (body_of s)) b.year h.year none })
 done_sound b c s h (posted z k o e is) =
     rw is (record { setup = h.setup; year = many_sound b.setup b.year z (post_in (body_of s)) (count_of s) h.setup h.year e })
 

@@ -12,11 +12,11 @@ use Rattle.std.proofs.lemmas.Grind.{common_steps}
 use Rattle.std.specs.Prelude.{Ok, Err}
 use Rattle.amounts.specs.Decline.{verdict_of}
 use Rattle.amounts.specs.declared.decline.Decline.{Decline}
+use Rattle.amounts.proofs.decline.Laws.{was_err}
 use Rattle.book.specs.Block.{block_on}
 use Rattle.book.specs.Site.{Book, fresh_book}
 use Rattle.book.specs.Blocks.{parts_to, parts_in, refused, onward, read_all}
 use Rattle.book.proofs.block.Laws.{block_more}
-use Rattle.book.proofs.posts.Laws.{was_err}
 
 -- ---- parts
 

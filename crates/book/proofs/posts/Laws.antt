@@ -8,16 +8,14 @@ use native.Mathlib.Numerals.{add-one}
 use native.Mathlib.Omega.{arith}
 use borrow.Author.Tests.{not-true}
 use lib.ListN.{take, drop}
-use Rattle.std.proofs.lemmas.Result.{err_from_is_err_and}
 use Rattle.std.specs.Prelude.{Ok, Err}
-use Rattle.std.specs.Result.{IsErrAnd}
 use Rattle.amounts.specs.Decline.{Answer, check, checked, on_taken, value_or, verdict_of}
 use Rattle.amounts.specs.declared.decline.Decline.TheVariants.{Full, Short}
 use Rattle.amounts.specs.declared.decline.Decline.{Decline}
 use Rattle.layout.specs.Outline.{may_post}
 use Rattle.layout.specs.Posts.{post_in, own_checks}
 use Rattle.plant.specs.declared.setup.Setup.{Setup}
-use Rattle.amounts.proofs.decline.Laws.{was_taken, passed, pass_taken, declines}
+use Rattle.amounts.proofs.decline.Laws.{was_taken, was_err, was_ok, passed, passed_then, accepts, declines}
 use Rattle.layout.proofs.posts.Laws.{Owned, owned}
 use Rattle.post.specs.Moves.{move_at}
 use Rattle.post.specs.declared.moves.Move.{Move}
@@ -52,14 +50,13 @@ module _ (u : Setup) (y : Year) (s : List ℕ) where
   pub admits : (m : Move) → asks ≡ Ok m → Admitted m
   unfolding admitted
   admits m e =
-      let a = was_taken (checked (turn_checks u.outline y.closed) s) _ m e in
-      let b = passed (turn_checks u.outline y.closed) s a.0 a.1 in
-      let c = was_taken (move_at u.outline u.numbers a.0) _ m a.2 in
+      let a = passed_then (turn_checks u.outline y.closed) s _ m e in
+      let c = was_taken (move_at u.outline u.numbers s) _ m a.1 in
       let d = passed (check (has_room y.posts c.0) Full ∷ []) c.0 m c.2 in
       record {
-        in_turn = b.0.0;
-        is_open = not-true y.closed b.0.1.0;
-        told = ap (move_at u.outline u.numbers) (sym b.1) ∙ c.1 ∙ ap Ok (sym d.1);
+        in_turn = a.0.0;
+        is_open = not-true y.closed a.0.1.0;
+        told = c.1 ∙ ap Ok (sym d.1);
         room = ap (has_room y.posts) d.1 ∙ d.0.0;
       }
 
@@ -132,23 +129,7 @@ many_sound u y z posts (suc n) su h e =
 
 -- ---- single posts and blocks of them
 
--- an answer by its verdict and its value
-pub was_err : {A : Type 0} (x : Answer A) (n : Decline) → Err n ≡ verdict_of x → x ≡ Err n
-was_err x n e = grind arith
-
-pub was_ok : {A : Type 0} (x : Answer A) (z : A) (t : Unit) (w : A) → Ok t ≡ verdict_of x → w ≡ value_or z x → x ≡ Ok w
-was_ok x z t w e f = grind arith
-
-pub was_kept : {A : Type 0} (x : Answer A) (z : A) (n : Decline) (w : A) → Err n ≡ verdict_of x → w ≡ value_or z x → w ≡ z
-was_kept x z n w e f = grind arith
-
--- what a `?` hands on of an answer that is a decline is its verdict
-pub hands_on : {A : Type 0} (r : Answer Unit) (x : Answer A) (n : Decline) → IsErrAnd r (λ m. m ≡ n) → x ≡ Err n → r ≡ verdict_of x
-hands_on r x n h e =
-    let p = err_from_is_err_and r h in
-    rw (e, p.1, p.2)
-
--- and a sound book
+-- a post of any bytes leaves a sound book
 pub sound_posted : (u : Setup) (y z : Year) (n : ℕ) (s : List ℕ) → Sound (book_with u y n) → z ≡ value_or y (post_on u y s) → Sound (book_with u z n)
 sound_posted u y z n s h e = record { setup = h.setup; year = rw e (post_sound u y s h.setup h.year); blocks_few = h.blocks_few }
 
@@ -205,7 +186,7 @@ module _ (u : Setup) (y : Year) (count : ℕ) (body : List ℕ) where
   -- the same by the verdict of its own bytes
   module _ (t : Unit) (passes : Ok t ≡ checked (own_checks u.outline y.closed count body) (tt {0})) where
     told_taken : posts_on u y count body ≡ taken_to u y (post_in body) count
-    told_taken = own_taken (pass_taken (own_checks u.outline y.closed count body) count (passed (own_checks u.outline y.closed count body) (tt {0}) t (sym passes)).0)
+    told_taken = own_taken (accepts (tt {0}) count (own_checks u.outline y.closed count body) passes)
 
     pub own_within : Owned u.outline y.closed count body
     own_within = (owned u.outline y.closed count body (tt {0}) t (sym passes)).0

@@ -1,12 +1,12 @@
 -- What a writer's accepted calls tell. Assumes nothing.
-use mathlib.Core.Path.{◌≡◌, refl}
+use mathlib.Core.Path.{◌≡◌}
 use mathlib.Core.Bool.{true, false}
 use mathlib.Core.List.{List, [], ◌∷◌}
 use Prim.Native.Nat.{ℕ}
 use native.Mathlib.Omega.{arith}
 use lib.ListN.{length}
 use Rattle.std.proofs.lemmas.Bool.Decides.{nat_tests}
-use Rattle.std.specs.Prelude.{Ok, Err}
+use Rattle.std.specs.Prelude.{Ok}
 use Rattle.amounts.specs.Decline.{Answer, check, checked, is_taken}
 use Rattle.amounts.specs.declared.decline.Decline.TheVariants.{NoRoom}
 use Rattle.layout.specs.Holds.{holds_of}
@@ -19,14 +19,10 @@ use Rattle.amounts.proofs.decline.Laws.{was_taken, AllPass, passed, pass_both}
 use Rattle.kinds.specs.Kind.{Row}
 use Rattle.post.specs.Moves.{laid_out, well_formed}
 use Rattle.pages.specs.Page.{Page, posted, post_on, with_part, set_up_on}
-use Rattle.pages.specs.Tally.{is_free, part_of_kind, part_checks, set_up_checks, may_begin, post_answer}
+use Rattle.bodies.specs.Part.{part_checks}
+use Rattle.pages.specs.Tally.{is_free, part_of_kind, set_up_checks, may_begin, post_answer}
 use Rattle.pages.proofs.tally.Laws.{Free, is_free_lem, early, has_part}
 use Rattle.pages.specs.declared.tally.Tally.{Tally}
-
--- an answer that is taken has a value
-pub has_value : {A : Type 0} (x : Answer A) → is_taken x ≡ true → (a : A) × (x ≡ Ok a)
-has_value (Ok a) e = (a, refl)
-has_value (Err n) e = cc
 
 -- ---- a set-up block
 

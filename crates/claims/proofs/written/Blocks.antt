@@ -25,7 +25,8 @@ use Rattle.amounts.proofs.decline.Laws.{pass_taken}
 use Rattle.layout.proofs.frame.Made.{held_made, count_made, body_made, made_passes}
 use Rattle.layout.proofs.holds.Laws.{of_posts_lem}
 use Rattle.post.specs.Moves.{well_formed}
-use Rattle.pages.specs.Tally.{part_checks, outline_after}
+use Rattle.bodies.specs.Part.{part_checks}
+use Rattle.pages.specs.Tally.{outline_after}
 use Rattle.claims.specs.Written.{joined, posts_by, posts_in, posts_in_all, body_rows, outline_by, outline_past, Passes, AllPass}
 use Rattle.claims.proofs.written.Accepted.{not_posts, formed_long}
 use Rattle.claims.proofs.written.Places.{zeros, zeros_zero, EachLong, joined_long, part_is, parts_are}

@@ -1,34 +1,26 @@
 -- What a block's frame tells where it is taken. Assumes nothing.
-use mathlib.Core.Path.{◌≡◌, refl, sym, ap, ◌∙◌}
-use mathlib.Core.Bool.{true, false}
-use mathlib.Core.List.{List, [], ◌∷◌, ◌++◌}
+use mathlib.Core.Path.{◌≡◌, sym, ap, ◌∙◌}
+use mathlib.Core.List.{List, ◌++◌}
 use Prim.Native.Nat.{ℕ, ◌+◌, ◌<◌}
 use native.Mathlib.Omega.{arith}
 use borrow.Author.Tests.{eqb-true}
 use lib.ListN.{length, get_or, drop}
 use lib.Seq.{get_or-drop}
 use Rattle.std.specs.Prelude.{Ok}
-use Rattle.amounts.specs.Decline.{Check, check, checked, on_taken}
+use Rattle.amounts.specs.Decline.{Answer, checked, on_taken}
 use Rattle.encoding.specs.Bytes.{le}
 use Rattle.layout.specs.Frame.{block_kind, block_checks, sum_checks, next_checks, frame_checks, held_at}
 use Rattle.layout.specs.Holds.{holds_of}
 use Rattle.layout.specs.declared.holds.Holds.{Holds}
-use Rattle.amounts.proofs.decline.Laws.{was_taken, passed, guards}
+use Rattle.amounts.proofs.decline.Laws.{was_taken, passed, guards, checked_both}
 use Rattle.encoding.proofs.bytes.Laws.{le_small}
-
--- three tables of checks, one behind the other
-tables : (xs ys zs : List Check) → checked (xs ++ (ys ++ zs)) (tt {0}) ≡ on_taken (checked xs (tt {0})) (λ u. on_taken (checked ys (tt {0})) (λ v. checked zs (tt {0})))
-unfolding checked
-tables [] [] zs = refl
-tables [] (check true d ∷ ys) zs = tables [] ys zs
-tables [] (check false d ∷ ys) zs = refl
-tables (check true d ∷ xs) ys zs = tables xs ys zs
-tables (check false d ∷ xs) ys zs = refl
 
 -- a frame is asked for 1, then for 2, then for 3
 pub frame_asked : (number : ℕ) (s : List ℕ)
     → checked (frame_checks number s) (tt {0}) ≡ on_taken (checked (block_checks s) (tt {0})) (λ u. on_taken (checked (sum_checks s) (tt {0})) (λ v. checked (next_checks number s) (tt {0})))
-frame_asked number s = tables (block_checks s) (sum_checks s) (next_checks number s)
+frame_asked number s =
+    checked_both (block_checks s) (sum_checks s ++ next_checks number s) (tt {0})
+    ∙ ap (λ (x : Answer Unit). on_taken (checked (block_checks s) (tt {0})) (λ u. x)) (checked_both (sum_checks s) (next_checks number s) (tt {0}))
 
 pub record Framed (number : ℕ) (s : List ℕ) : Type 0 where
   pub long : length s ≡ 512

@@ -1,15 +1,15 @@
 -- What a call makes of a page, by what it makes of the tally. Assumes nothing.
 use mathlib.Core.Path.{◌≡◌, refl, sym, ap, ap₂, ◌∙◌}
-use mathlib.Core.Bool.{true, false}
-use mathlib.Core.List.{List, [], ◌∷◌, ◌++◌}
+use mathlib.Core.List.{List, ◌++◌}
 use Prim.Native.Nat.{ℕ, ◌+◌, ◌*◌}
 use native.Mathlib.Omega.{arith}
 use borrow.Author.Tests.{eq-eqb, ne_eqb}
 use lib.ListN.{length, take, drop, replicate, length-replicate}
 use lib.Seq.{take_at, drop_at}
 use Rattle.std.specs.Prelude.{Ok, Err}
-use Rattle.amounts.specs.Decline.{Answer, Check, check, checked, on_taken, value_or, verdict_of}
+use Rattle.amounts.specs.Decline.{Answer, checked, on_taken, value_or, verdict_of}
 use Rattle.amounts.specs.declared.decline.Decline.{Decline}
+use Rattle.amounts.proofs.decline.Laws.{verdict_guards, checked_maps, checked_verdict}
 use Rattle.encoding.proofs.bytes.Placed.{placed_in}
 use Rattle.encoding.specs.Bytes.{placed}
 use Rattle.layout.specs.Frame.{body_of, block_of}
@@ -28,12 +28,6 @@ use Rattle.pages.specs.declared.tally.Tally.{Tally}
 abbrev pub set_up_page : Page → ℕ → ℕ → List ℕ → Tally → Page
 set_up_page p kind count body u =
     page_of (placed p.bytes p.filled (block_of kind count p.draft.tally.blocks body)) (p.filled + 512) (draft_of u p.draft.block)
-
-checked_maps : {A B : Type 0} (f : A → B) (rows : List Check) (a : A) → checked rows (f a) ≡ on_taken (checked rows a) (λ u. Ok (f u))
-unfolding checked
-checked_maps f [] a = refl
-checked_maps f (check true n ∷ rows) a = checked_maps f rows a
-checked_maps f (check false n ∷ rows) a = refl
 
 pub set_up_as : (p : Page) (kind count : ℕ) (body : List ℕ)
     → set_up_on p kind count body ≡ on_taken (tally.set_up_on (length p.bytes) p.draft.tally kind count body) (λ u. Ok (set_up_page p kind count body u))
@@ -95,13 +89,13 @@ set_up_part room t kind count body u sound c = go (part_of_kind kind) c.verdict 
     go (Err n) e f = cc
     go (Ok part) e f =
         let rows = set_up_checks room t part count body in
-        let passes : Ok (tt {0}) ≡ checked rows (tt {0}) = e ∙ laws.checked_verdict rows (tally.set_up t part count body) in
+        let passes : Ok (tt {0}) ≡ checked rows (tt {0}) = e ∙ checked_verdict rows (tally.set_up t part count body) in
         record {
           part = part;
           told = laws.set_up_taken room t sound part count body passes;
           is =
               f
-              ∙ ap (value_or t) (laws.checked_guards rows (tally.set_up t part count body))
+              ∙ ap (value_or t) (checked_maps (λ (_ : Unit). tally.set_up t part count body) rows (tt {0}))
               ∙ ap (λ (a : Answer Unit). value_or t (on_taken a (λ _. Ok (tally.set_up t part count body)))) (sym passes);
         }
 
@@ -146,11 +140,7 @@ module _ (p : Page) (sound : Sound p) (s : List ℕ) (u : Tally) (c : Counts p.d
   v = p.draft.tally
 
   passes : Ok (tt {0}) ≡ verdict_of (post_answer (length p.bytes) v s)
-  passes = c.verdict ∙ ap verdict_of (laws.post_on_is (length p.bytes) v s) ∙ same (verdict_of (post_answer (length p.bytes) v s))
-    where
-      same : (a : Answer Unit) → verdict_of (on_taken a (λ _. Ok (tally.posted v))) ≡ a
-      same (Ok x) = refl
-      same (Err n) = refl
+  passes = c.verdict ∙ ap verdict_of (laws.post_on_is (length p.bytes) v s) ∙ verdict_guards (verdict_of (post_answer (length p.bytes) v s)) (tally.posted v)
 
   post_is : u ≡ tally.posted v
   post_is = c.after ∙ ap (value_or v) (laws.post_on_is (length p.bytes) v s) ∙ ap (λ (a : Answer Unit). value_or v (on_taken a (λ _. Ok (tally.posted v)))) (sym passes)

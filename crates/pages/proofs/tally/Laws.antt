@@ -1,17 +1,17 @@
 -- What a call on a tally answers, and that every tally stays sound. Assumes nothing.
 use mathlib.Core.Path.{◌≡◌, refl, sym, ap, subst, ◌∙◌}
 use mathlib.Core.Bool.{Bool, true, false, true≢false, cond, not, ◌&&◌}
-use mathlib.Core.List.{List, [], ◌∷◌, ◌++◌}
+use mathlib.Core.List.{List, [], ◌∷◌}
 use Prim.Native.Nat.{ℕ, ◌+◌, ◌*◌, ◌≤◌, ◌<◌}
 use native.Mathlib.Omega.{arith}
 use borrow.Author.Tests.{ltb-true, leb-true, eqb-true, eqb-false, ne_eqb}
 use lib.Dec.{eqb, leb, ltb}
 use lib.ListN.{length}
 use Rattle.std.specs.Prelude.{Ok, Err}
-use Rattle.amounts.specs.Decline.{Answer, Check, check, checked, on_taken, value_or, verdict_of}
+use Rattle.amounts.specs.Decline.{Answer, check, checked, on_taken, value_or, verdict_of}
 use Rattle.amounts.specs.declared.decline.Decline.{Decline}
 use Rattle.amounts.specs.declared.decline.Decline.TheVariants.{OutOfTurn, NoRoom}
-use Rattle.amounts.proofs.decline.Laws.{AllPass, passed, pass_both}
+use Rattle.amounts.proofs.decline.Laws.{was_taken, answer_guards, verdict_guards, AllPass, passed, checked_maps, checked_verdict, one_answers, pass_both, checked_both}
 use Rattle.std.proofs.lemmas.Bool.{and_parts}
 use Rattle.layout.specs.Holds.{holds_of}
 use Rattle.layout.specs.Outline.{may_post, may_set_up, may_describe}
@@ -22,52 +22,23 @@ use Rattle.layout.specs.declared.holds.SetupPart.TheVariants.{Materials, Stage}
 use Rattle.layout.specs.declared.outline.Outline.{Outline}
 use Rattle.kinds.specs.Kind.{Row}
 use Rattle.post.specs.Moves.{well_formed}
-use Rattle.pages.specs.Tally.{is_free, as_part, part_of_kind, part_checks, set_up_checks, may_begin, post_answer, finished, posted, ended}
+use Rattle.bodies.specs.Part.{part_checks}
+use Rattle.pages.specs.Tally.{is_free, as_part, part_of_kind, set_up_checks, may_begin, post_answer, finished, posted, ended}
 use Rattle.pages.specs.Tally.{set_up, part_on, set_up_on, post_on, Begun, Sound, Counts}
 use Rattle.pages.specs.declared.tally.Tally.{Tally}
 
--- ---- tables of checks
-
--- a table behind another is asked where the first passes
-pub checked_both : {A : Type 0} (xs ys : List Check) (a : A) → checked (xs ++ ys) a ≡ on_taken (checked xs (tt {0})) (λ _. checked ys a)
-unfolding checked
-checked_both [] ys a = refl
-checked_both (check true n ∷ xs) ys a = checked_both xs ys a
-checked_both (check false n ∷ xs) ys a = refl
+-- ---- what a call answers, check by check
 
 -- the last check of a part of the set-up, behind those of the part
 pub last_check : (room : ℕ) (t : Tally) (part : SetupPart) (count : ℕ) (body : List ℕ) → Ok (tt {0}) ≡ checked (part_checks t.outline part count body) (tt {0})
     → checked (set_up_checks room t part count body) (tt {0}) ≡ cond (is_free room t) (Ok (tt {0})) (Err NoRoom)
-unfolding checked
 last_check room t part count body e =
-    rw (checked_both (part_checks t.outline part count body) (check (is_free room t) NoRoom ∷ []) (tt {0}), ← e) (go (is_free room t))
-  where
-    go : (free : Bool) → checked (check free NoRoom ∷ []) (tt {0}) ≡ cond free (Ok (tt {0})) (Err NoRoom)
-    go true = refl
-    go false = refl
+    rw (checked_both (part_checks t.outline part count body) (check (is_free room t) NoRoom ∷ []) (tt {0}), ← e) (one_answers (is_free room t) NoRoom (tt {0}))
 
 -- a check of the part that fails
 pub part_declined : (room : ℕ) (t : Tally) (part : SetupPart) (count : ℕ) (body : List ℕ) (n : Decline) → Err n ≡ checked (part_checks t.outline part count body) (tt {0})
     → Err n ≡ checked (set_up_checks room t part count body) (tt {0})
 part_declined room t part count body n e = rw (checked_both (part_checks t.outline part count body) (check (is_free room t) NoRoom ∷ []) (tt {0}), ← e)
-
--- what a table guards is taken where the table passes
-pub checked_guards : {A : Type 0} (rows : List Check) (a : A) → checked rows a ≡ on_taken (checked rows (tt {0})) (λ _. Ok a)
-unfolding checked
-checked_guards [] a = refl
-checked_guards (check true n ∷ rows) a = checked_guards rows a
-checked_guards (check false n ∷ rows) a = refl
-
-pub checked_verdict : {A : Type 0} (rows : List Check) (a : A) → verdict_of (checked rows a) ≡ checked rows (tt {0})
-unfolding checked
-checked_verdict [] a = refl
-checked_verdict (check true n ∷ rows) a = checked_verdict rows a
-checked_verdict (check false n ∷ rows) a = refl
-
--- what follows an answer whatever its value
-pub answer_guards : {A B : Type 0} (a : Answer A) (b : B) → on_taken a (λ _. Ok b) ≡ on_taken (verdict_of a) (λ _. Ok b)
-answer_guards (Ok a) b = refl
-answer_guards (Err n) b = refl
 
 -- a post is taken as its verdict says
 pub post_on_is : (room : ℕ) (t : Tally) (s : List ℕ) → post_on room t s ≡ on_taken (verdict_of (post_answer room t s)) (λ _. Ok (posted t))
@@ -85,8 +56,7 @@ post_verdict room t s = go (may_post t.outline)
   where
     inner : (w : Answer Row) (b : Bool)
         → verdict_of (on_taken w (λ k. checked (check b NoRoom ∷ []) k)) ≡ on_taken (verdict_of w) (λ _. checked (check b NoRoom ∷ []) (tt {0}))
-    inner (Ok k) true = refl
-    inner (Ok k) false = refl
+    inner (Ok k) b = checked_verdict (check b NoRoom ∷ []) k
     inner (Err n) b = refl
 
     go : (m : Bool)
@@ -235,12 +205,8 @@ pub set_up_counts : (room : ℕ) (t : Tally) (kind : ℕ) (part : SetupPart) (co
 unfolding set_up_on part_on
 set_up_counts room t kind part count body v k e =
     let is : set_up_on room t kind count body ≡ on_taken v (λ _. Ok (set_up t part count body)) =
-    rw (← k, checked_guards (set_up_checks room t part count body) (set_up t part count body), ← e) in
-    record { verdict = verdict v ∙ ap verdict_of (sym is); after = ap (value_or t) (sym is) }
-  where
-    verdict : (a : Answer Unit) → a ≡ verdict_of (on_taken a (λ _. Ok (set_up t part count body)))
-    verdict (Ok x) = refl
-    verdict (Err n) = refl
+    rw (← k, checked_maps (λ (_ : Unit). set_up t part count body) (set_up_checks room t part count body) (tt {0}), ← e) in
+    record { verdict = sym (verdict_guards v (set_up t part count body)) ∙ ap verdict_of (sym is); after = ap (value_or t) (sym is) }
 
 -- a kind that holds no part of the set-up
 pub kind_declined : (room : ℕ) (t : Tally) (kind count : ℕ) (body : List ℕ) (n : Decline) → Err n ≡ part_of_kind kind → Counts t (set_up_on room t kind count body) (Err n) t
@@ -250,17 +216,11 @@ kind_declined room t kind count body n e = record { verdict = rw (← e); after 
 -- a set-up block that is taken is one block more
 pub set_up_adds : (room : ℕ) (t : Tally) (kind count : ℕ) (body : List ℕ) (u : Tally) → set_up_on room t kind count body ≡ Ok u → u.blocks ≡ t.blocks + 1
 unfolding set_up_on part_on set_up
-set_up_adds room t kind count body u e = go (part_of_kind kind) e
-  where
-    go : (a : Answer SetupPart) → on_taken a (λ part. checked (set_up_checks room t part count body) (set_up t part count body)) ≡ Ok u → u.blocks ≡ t.blocks + 1
-    go (Ok part) f = ap (λ (x : Tally). x.blocks) (passed (set_up_checks room t part count body) (set_up t part count body) u f).1
-    go (Err n) f = cc
+set_up_adds room t kind count body u e =
+    let a = was_taken (part_of_kind kind) _ u e in
+    ap (λ (x : Tally). x.blocks) (passed (set_up_checks room t a.0 count body) (set_up t a.0 count body) u a.2).1
 
 -- the tally after a post that is taken
 pub post_on_taken : (room : ℕ) (t : Tally) (s : List ℕ) (u : Tally) → post_on room t s ≡ Ok u → u ≡ posted t
 unfolding post_on
-post_on_taken room t s u e = go (post_answer room t s) e
-  where
-    go : (a : Answer Row) → on_taken a (λ _. Ok (posted t)) ≡ Ok u → u ≡ posted t
-    go (Ok k) f = cc
-    go (Err n) f = cc
+post_on_taken room t s u e = let a = was_taken (post_answer room t s) _ u e in cc

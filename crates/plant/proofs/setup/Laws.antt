@@ -1,10 +1,10 @@
 -- Reading a set-up's numbers. Assumes nothing.
 use mathlib.Core.Path.{◌≡◌, refl, sym, ap, ◌∙◌}
 use mathlib.Core.List.{List}
-use Prim.Native.Nat.{ℕ, zero, suc, ◌+◌, ◌*◌, ◌%◌, ◌^◌, ◌≤◌, ◌<◌}
+use Prim.Native.Nat.{ℕ, zero, suc, ◌+◌, ◌*◌, ◌%◌, ◌<◌}
 use native.Mathlib.Omega.{arith}
 use lib.ListN.{drop, get_or}
-use lib.Seq.{drop-drop, get_or-drop}
+use lib.Seq.{drop-drop}
 use denote.Param.Members.{Mut}
 use Rattle.std.specs.Array.{IsFromFnResult}
 use Rattle.std.specs.Prelude.{Ok, Err}
@@ -13,12 +13,12 @@ use Rattle.amounts.specs.Decline.{checked, value_or}
 use Rattle.amounts.specs.declared.decline.Decline.{Decline}
 use Rattle.amounts.proofs.decline.Laws.{accepts, declines}
 use Rattle.encoding.specs.Bytes.{le, les}
-use Rattle.encoding.specs.Each.{sum_to, list_to}
+use Rattle.encoding.specs.Each.{list_to}
 use Rattle.encoding.proofs.Each.{list_made, list_at}
-use Rattle.encoding.proofs.bytes.Laws.{le_small}
-use Rattle.plant.specs.Setup.{row_sum, contents_in, counted_all, setup_checks, setup_of, set_up_on}
+use Rattle.bodies.specs.Setup.{contents_in, setup_checks}
+use Rattle.plant.specs.Setup.{counted_all, setup_of, set_up_on}
 use Rattle.plant.specs.declared.setup.Setup.{Setup}
-use Rattle.plant.proofs.Ranges.{Computes}
+use Rattle.bodies.proofs.Ranges.{Computes}
 
 -- ---- numbers of w bytes, one after the other from a place of s on, read into an array
 
@@ -42,18 +42,6 @@ counted_told classes body =
     let there : get_or (contents_in body) i 0 ≡ le 4 (drop (26 + i * 4) body) =
     list_at 96 (λ k. le 4 (drop (k * 4) (drop 26 body))) i 0 l ∙ ap (λ (s : List ℕ). le 4 s) (drop-drop (i * 4) 26 body) in
     ap (λ n. value_or 0 (counted_of (get_or classes (i % 8) 0) n)) (sym there))
-
--- ---- a row's sum fits
-
-words_small : (n : ℕ) (f : ℕ → ℕ) → ((i : ℕ) → f i < 4294967296) → sum_to n f ≤ 4294967295 * n
-unfolding sum_to
-words_small zero f h = omega arith
-words_small (suc n) f h = omega (arith, words_small n f h, h n)
-
-pub row_small : (s : List ℕ) → ((i : ℕ) → get_or s i 0 < 256) → row_sum s < 2 ^ 64
-row_small s h =
-    let each : (i : ℕ) → le 4 (drop (i * 4) s) < 4294967296 = λ i. le_small 4 (drop (i * 4) s) (λ k. rw (get_or-drop (i * 4) s k 0) (h (i * 4 + k))) in
-    omega (arith, words_small 8 (λ i. le 4 (drop (i * 4) s)) each)
 
 -- ---- a kind 1 block by the verdict of its checks
 

@@ -5,20 +5,19 @@ use mathlib.Core.List.{List, [], ◌∷◌}
 use Prim.Native.Nat.{ℕ, zero, suc, ◌%◌, ◌≤◌}
 use native.Mathlib.Omega.{arith}
 use lib.Dec.{leb}
-use lib.ListN.{length, get_or, replicate, length-replicate}
-use borrow.Author.Tests.{eqb-true, eq-eqb, leb-true}
+use lib.ListN.{get_or, replicate, length-replicate}
+use borrow.Author.Tests.{leb-true}
 use Rattle.amounts.specs.Class.{class_of}
 use Rattle.amounts.specs.declared.class.Class.{Class}
 use Rattle.amounts.specs.Content.{is_ppm, counted_from, counts, counted_of}
 use Rattle.std.specs.Prelude.{Ok, Err}
 use Rattle.amounts.specs.Decline.{Answer, check, checked, on_taken, value_or}
 use Rattle.amounts.specs.declared.decline.Decline.TheVariants.{Layout}
-use Rattle.layout.specs.Outline.{may_post}
-use Rattle.plant.specs.Setup.{no_rates, no_pair, no_stage, materials_in, stages_in, classes_in, contents_in, counted_all, setup_checks, fresh_setup, setup_of, Rated, SoundSetup}
+use Rattle.bodies.specs.Setup.{classes_in, contents_in}
+use Rattle.plant.specs.Setup.{no_rates, no_pair, no_stage, counted_all, fresh_setup, setup_of, Rated, SoundSetup}
 use Rattle.layout.specs.declared.outline.Outline.{Outline}
-use Rattle.amounts.proofs.decline.Laws.{passed}
 use Rattle.encoding.proofs.Each.{list_keeps}
-use Rattle.encoding.proofs.bytes.Laws.{within_true}
+use Rattle.bodies.proofs.setup.Taken.{Accepts}
 
 -- each place of a list of one value has it
 pub same_at : {A : Type 0} (n i : ℕ) (a : A) → get_or (replicate n a) i a ≡ a
@@ -65,31 +64,6 @@ counted_all_le : (classes contents : List ℕ) (i : ℕ) → get_or (counted_all
 counted_all_le classes contents =
     list_keeps (λ n. n ≤ 1000000) 96 (λ k. value_or 0 (counted_of (get_or classes (k % 8) 0) (get_or contents k 0))) 0 (omega arith)
     (λ k h. counted_le (get_or classes (k % 8) 0) (get_or contents k 0))
-
--- what an accepted block's checks tell
-pub record Accepts (o : Outline) (count : ℕ) (body : List ℕ) : Type 0 where
-  pub none : o.substances ≡ 0
-  pub long : length body ≡ 500
-  pub substances : (1 ≤ count) × (count ≤ 8)
-  pub materials : materials_in body ≤ 12
-  pub stages : stages_in body ≤ 8
-
-pub accepted : {A : Type 0} (o : Outline) (count : ℕ) (body : List ℕ) (x y : A) → checked (setup_checks o count body) x ≡ Ok y → Accepts o count body × (y ≡ x)
-accepted o count body x y e =
-    let h = passed (setup_checks o count body) x y e in (
-      record {
-        none = eqb-true o.substances 0 h.0.0;
-        long = eqb-true (length body) 500 h.0.1.0;
-        substances = within_true 1 8 count h.0.1.1.0;
-        materials = (within_true 1 12 (materials_in body) h.0.1.1.1.0).1;
-        stages = (within_true 1 8 (stages_in body) h.0.1.1.1.1.0).1;
-      },
-      h.1,
-    )
-
--- no post may come while a kind 1 block may
-pub not_yet : (o : Outline) → o.substances ≡ 0 → may_post o ≡ false
-not_yet o e = rw (eq-eqb o.substances 0 e)
 
 pub sound_set_up : (o : Outline) (count : ℕ) (body : List ℕ) → Accepts o count body → SoundSetup (setup_of count body)
 sound_set_up o count body a =

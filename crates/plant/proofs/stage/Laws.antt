@@ -7,7 +7,8 @@ use lib.ListN.{length, drop, set, drop_of_length-le}
 use Rattle.encoding.specs.Bytes.{le}
 use Rattle.encoding.specs.Each.{put_to}
 use Rattle.plant.specs.Setup.{no_rates}
-use Rattle.plant.specs.Stage.{rates_at, pair_row}
+use Rattle.bodies.specs.Stage.{rates_at}
+use Rattle.plant.specs.Stage.{pair_row}
 use Rattle.plant.specs.declared.setup.Pair.{Pair}
 use Rattle.plant.specs.declared.setup.Setup.{Setup}
 

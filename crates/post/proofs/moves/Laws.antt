@@ -5,9 +5,8 @@ use Rattle.forms.specs.Form.{values_of}
 use Rattle.losses.specs.Coefficient.{row_of}
 use Rattle.losses.proofs.loss.Laws.{over_bounded, over_range}
 use Rattle.amounts.specs.Decline.{Answer, check, checked, on_taken, verdict_of}
-use Rattle.amounts.specs.declared.decline.Decline.{Decline}
 use Rattle.amounts.specs.declared.decline.Decline.TheVariants.{Layout, OutOfRange}
-use Rattle.amounts.proofs.decline.Laws.{one_taken, was_taken}
+use Rattle.amounts.proofs.decline.Laws.{was_taken, passed_then, checked_verdict, one_taken, one_answers}
 use Rattle.layout.specs.declared.outline.Outline.{Outline}
 use Rattle.kinds.specs.Fields.{post_at}
 use Rattle.kinds.specs.Kind.{Row, fields_fit, kind_of, limited}
@@ -22,18 +21,12 @@ use Rattle.post.specs.Steps.{laid_as, laid_of, amount_read, Fits}
 use Rattle.post.specs.declared.moves.Laid.{Laid}
 use Rattle.post.specs.declared.moves.Move.{Move}
 
--- what follows a check that is taken
-then_taken : {A B : Type 0} (t : Bool) (d : Decline) (a : A) (next : A → Answer B) (b : B) → on_taken (checked (check t d ∷ []) a) next ≡ Ok b → (t ≡ true) × (next a ≡ Ok b)
-unfolding checked
-then_taken true d a next b e = (refl, e)
-then_taken false d a next b e = cc
-
 -- a post that is laid out by a row is of the row's kind and within its limits
 pub row_laid : (o : Outline) (s : List ℕ) (r : Row) → laid_out o s ≡ Ok r → (kind_of (post_at s).kind ≡ Ok r) × (fields_fit (r.limits o) (post_at s) ≡ true)
 unfolding laid_out
 row_laid o s r e =
     let p = post_at s in
-    let a = then_taken (eqb (length s) 48) Layout p _ r e in
+    let a = passed_then (check (eqb (length s) 48) Layout ∷ []) p _ r e in
     let b = was_taken (kind_of p.kind) _ r a.1 in
     let c = one_taken _ Layout b.0 r (sym b.2) in
     let is : b.0 ≡ r = sym c.1 in
@@ -64,16 +57,14 @@ laid_read o s = by_length (eqb (length s) 48) refl (kind_of (post_at s).kind) re
 -- 7 behind it
 pub formed_read : (o : Outline) (s : List ℕ)
     → verdict_of (well_formed o s) ≡ on_taken (laid_of (post_at s) (laid_out o s)) (λ l. cond (floats_fit l.measure l.post) (Ok (tt {0})) (Err OutOfRange))
-unfolding well_formed checked
+unfolding well_formed
 formed_read o s = by_row (laid_out o s)
   where
-    by_floats : (t : Bool) (r : Row) → verdict_of (checked (check t OutOfRange ∷ []) r) ≡ cond t (Ok (tt {0})) (Err OutOfRange)
-    by_floats true r = refl
-    by_floats false r = refl
-
     by_row : (x : Answer Row) → verdict_of (on_taken x (λ k. checked (check (floats_fit k.measure (post_at s)) OutOfRange ∷ []) k))
         ≡ on_taken (laid_of (post_at s) x) (λ l. cond (floats_fit l.measure l.post) (Ok (tt {0})) (Err OutOfRange))
-    by_row (Ok r) = by_floats (floats_fit r.measure (post_at s)) r
+    by_row (Ok r) =
+        let fit = floats_fit r.measure (post_at s) in
+        checked_verdict (check fit OutOfRange ∷ []) r ∙ one_answers fit OutOfRange (tt {0})
     by_row (Err d) = refl
 
 -- it meets what its row's limits tell

@@ -6,6 +6,7 @@ use native.Mathlib.Numerals.{add-one}
 use lib.ListN.{length}
 use Rattle.std.specs.Prelude.{Result, Ok, Err}
 use Rattle.amounts.specs.Decline.{value_or, verdict_of}
+use Rattle.amounts.proofs.decline.Laws.{was_err}
 use Rattle.pages.specs.Page.{Page, ended}
 use Rattle.records.specs.Records.{Recorded, call, malformed, first_of, rest_of, behind, records_in, IsFirst}
 use Rattle.records.specs.Batch.{onward, record_on, next_on, write_all, end_of}
@@ -91,17 +92,13 @@ module _ {A : Type 0} (lent : A → ℕ) (at : A → Page → Type 0) where
         f : Follows lent at (λ p. record_on p (first_of rest)) b c (Err n)
         f = first_taken rest r b c _ first k
 
-        go : (x : Page) (r : Result Page Refusal) → record_on x (first_of rest) ≡ r → Err n ≡ verdict_of r → record_on x (first_of rest) ≡ Err n
-        go x (Ok q) e v = cc
-        go x (Err m) e v = cc
-
         is : (p : Page) → at a p → write_all p 0 (records_in s) ≡ Err (record { refusal = n; place = place })
         is p k =
             let x = u.come p k in
             sym x.so_far
             ∙ next_is rest h x.page place
             ∙ ap (λ (r : Result Page Refusal). onward r place (λ y. write_all y (suc place) (records_in (rest_of rest))))
-            (go x.page (record_on x.page (first_of rest)) refl (f.verdict x.page x.is_at))
+            (was_err (record_on x.page (first_of rest)) n (f.verdict x.page x.is_at))
 
     -- none is left
     pub upto_end : (c : A) (n : ℕ) → length rest ≡ 0 → Follows lent at ends b c (Ok (tt {0})) → ((p : Page) → at c p → n ≡ p.filled) → TakesAll lent at s a c (Ok n)

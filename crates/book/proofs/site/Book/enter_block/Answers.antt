@@ -1,11 +1,11 @@
 use Rattle.std.proofs.Common.{◌≡◌, ◌+◌, ◌∙◌, Ok, sym, ap, arith}
 use Rattle.std.proofs.lemmas.Grind.{common_steps}
 use Rattle.amounts.specs.Decline.{verdict_of}
+use Rattle.amounts.proofs.decline.Laws.{was_kept, hands_on}
 use Rattle.layout.specs.Frame.{held_at}
 use Rattle.layout.proofs.frame.Laws.{held_framed}
 use Rattle.book.specs.Block.{block_on}
 use Rattle.book.specs.Site.{Book, book_with}
-use Rattle.book.proofs.posts.Laws.{was_kept, hands_on}
 use Rattle.book.proofs.block.Laws.{not_framed, setup_declined, setup_taken, setup_sound, posts_declined, posts_counted, block_sound}
 use Rattle.book.proofs.site.Book.enter_block.Goals as goal
 use Rattle.book.proofs.site.Book.enter_block.Goals.{in-SetUp+in_ok-add_part-in-SetUp, in-Posts+in_ok-take_posts-in-Posts}
@@ -37,19 +37,19 @@ returns-in_err-take_posts-in-Posts-clause-verdict c =
 pub invariant_of-self-in_err-add_part-in-SetUp : goal.invariant_of-self-in_err-add_part-in-SetUp
 invariant_of-self-in_err-add_part-in-SetUp c =
     let e = c.in_err-add_part-in-SetUp.ensures in
-    rw (was_kept _ _ _ _ e.verdict e.setup_after) c.self.invariant
+    rw (was_kept _ _ _ _ e.verdict e.setup) c.self.invariant
 
 pub returns-in_err-add_part-in-SetUp-clause-kept : goal.returns-in_err-add_part-in-SetUp-clause-kept
 returns-in_err-add_part-in-SetUp-clause-kept c =
     let e = c.in_err-add_part-in-SetUp.ensures in
-    grind (arith, common_steps, was_kept _ _ _ _ e.verdict e.setup_after)
+    grind (arith, common_steps, was_kept _ _ _ _ e.verdict e.setup)
 
 -- ---- one that is taken, by what it holds
 
 pub invariant_of-self : goal.invariant_of-self
 invariant_of-self c =
     let e = c.in_ok-add_part-in-SetUp.ensures in
-    setup_sound _ _ _ c.self.invariant (setup_taken _ _ _ c.in_ok-held.ensures _ c.in-SetUp.is _ _ e.verdict e.setup_after)
+    setup_sound _ _ _ c.self.invariant (setup_taken _ _ _ c.in_ok-held.ensures _ c.in-SetUp.is _ _ e.verdict e.setup)
 
 pub returns-clause-taken : goal.returns-clause-taken
 returns-clause-taken c =
@@ -58,7 +58,7 @@ returns-clause-taken c =
     let taken : block_on c.args.self.now c.args.s.now ≡ Ok (book_with m.setup m.year (m.blocks + 1)) =
     elim c.match-held.branch [
       | in-SetUp+in_ok-add_part-in-SetUp w ↦
-          rw (w.self-is, ← c.self.view_is) (setup_taken _ _ _ c.in_ok-held.ensures _ w.in-SetUp.is _ _ w.in_ok-add_part-in-SetUp.ensures.verdict w.in_ok-add_part-in-SetUp.ensures.setup_after)
+          rw (w.self-is, ← c.self.view_is) (setup_taken _ _ _ c.in_ok-held.ensures _ w.in-SetUp.is _ _ w.in_ok-add_part-in-SetUp.ensures.verdict w.in_ok-add_part-in-SetUp.ensures.setup)
       | in-Posts+in_ok-take_posts-in-Posts w ↦
           rw w.self-is (posts_counted c.args.self.now _ _ held w.in-Posts.is _ w.in_ok-take_posts-in-Posts.ensures.taken w.take_posts.ensures.kept)
     ] in

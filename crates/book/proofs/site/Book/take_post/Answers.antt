@@ -1,7 +1,8 @@
 use Rattle.std.proofs.Common.{sym, ap}
 use Rattle.amounts.specs.Decline.{value_or}
+use Rattle.amounts.proofs.decline.Laws.{hands_on}
 use Rattle.book.specs.Site.{book_with}
-use Rattle.book.proofs.posts.Laws.{hands_on, single_declined, entered_as, entered_to, entered_book, room_admitted, sound_posted}
+use Rattle.book.proofs.posts.Laws.{single_declined, entered_as, entered_to, entered_book, room_admitted, sound_posted}
 use Rattle.book.proofs.site.Book.take_post.Goals as goal
 
 pub returns-in_err-m-clause-verdict : goal.returns-in_err-m-clause-verdict

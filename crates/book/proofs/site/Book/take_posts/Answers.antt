@@ -1,8 +1,9 @@
 use Rattle.std.proofs.Common.{◌<◌, ◌∙◌, refl, sym, ap, arith}
 use Rattle.amounts.specs.Decline.{checked, verdict_of}
+use Rattle.amounts.proofs.decline.Laws.{hands_on}
 use Rattle.layout.specs.Posts.{own_checks}
 use Rattle.book.specs.Site.{Book}
-use Rattle.book.proofs.posts.Laws.{hands_on, verdict_there, book_there, none_yet, own_declined, own_within, all_taken, turn_declined, turn_taken}
+use Rattle.book.proofs.posts.Laws.{verdict_there, book_there, none_yet, own_declined, own_within, all_taken, turn_declined, turn_taken}
 use Rattle.book.proofs.site.Book.take_posts.Goals as goal
 
 pub returns-in_err-check_posts-clause-verdict : goal.returns-in_err-check_posts-clause-verdict

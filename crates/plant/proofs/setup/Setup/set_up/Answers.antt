@@ -1,13 +1,12 @@
 use Rattle.std.proofs.Common.{sym, ap, ◌∙◌}
-use Rattle.std.proofs.lemmas.Result.{err_from_is_err_and}
+use Rattle.amounts.proofs.decline.Laws.{hands_on}
 use Rattle.amounts.specs.Decline.{value_or, verdict_of}
 use Rattle.plant.proofs.setup.Laws.{set_up_declined, set_up_taken}
 use Rattle.plant.proofs.setup.Setup.set_up.Goals as goal
 
 pub returns-in_err-check_setup-clause-verdict : goal.returns-in_err-check_setup-clause-verdict
 returns-in_err-check_setup-clause-verdict c =
-    let p = err_from_is_err_and c.from_residual.result c.from_residual.ensures.1 in
-    rw (p.1, p.2) (sym (ap verdict_of (set_up_declined _ _ _ _ c.in_err-check_setup.ensures)))
+    hands_on _ _ _ c.from_residual.ensures.1 (set_up_declined _ _ _ _ c.in_err-check_setup.ensures)
 
 pub returns : goal.returns
 returns c =

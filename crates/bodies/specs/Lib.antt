@@ -1,0 +1,3 @@
+pub mod Setup
+pub mod Stage
+pub mod Part

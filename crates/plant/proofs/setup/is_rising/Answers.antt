@@ -1,9 +1,0 @@
-use Rattle.std.proofs.Common.{rules, ltb}
-use Rattle.plant.specs.Setup.{before, number_at}
-use Rattle.plant.proofs.Ranges.{all_told}
-use Rattle.plant.proofs.setup.is_rising.Goals as goal
-
-pub returns : goal.returns
-returns c =
-    let a = c.args in
-    all_told _ (λ i. ltb (before a.s.now i) (number_at a.s.now i)) a.n (λ i t q h. (search rules, search rules)) _ c.from.ensures c.all.ensures.ran

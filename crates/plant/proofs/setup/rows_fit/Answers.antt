@@ -1,9 +1,0 @@
-use Rattle.std.proofs.Common.{rules, ◌*◌, drop}
-use Rattle.plant.specs.Setup.{row_fits}
-use Rattle.plant.proofs.Ranges.{all_told}
-use Rattle.plant.proofs.setup.rows_fit.Goals as goal
-
-pub returns : goal.returns
-returns c =
-    let a = c.args in
-    all_told _ (λ i. row_fits a.k (drop (i * 32) a.s.now)) a.n (λ i t q h. (search rules, search rules)) _ c.from.ensures c.all.ensures.ran
