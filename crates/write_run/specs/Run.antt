@@ -14,13 +14,16 @@ unfoldable pub page_after : Page → List Recorded → Page
 page_after p [] = p
 page_after p (r ∷ rest) = page_after (value_or p (record_on p r)) rest
 
--- the bytes that are filled
+-- the page of an input's records: "the last block is ended where the input ends"; behind a malformed record "the journal of the records before it is still written"
+abbrev pub page_of : List ℕ → List ℕ → Page
+page_of lent s = ended (page_after (fresh_page lent) (records_in s))
+
+-- what is written: the bytes of that page that are filled
 abbrev pub filled_of : Page → List ℕ
 filled_of p = take p.filled p.bytes
 
--- "the last block is ended where the input ends"; behind a malformed record "the journal of the records before it is still written"
 abbrev pub journal_of : List ℕ → List ℕ → List ℕ
-journal_of lent s = filled_of (ended (page_after (fresh_page lent) (records_in s)))
+journal_of lent s = filled_of (page_of lent s)
 
 -- what tells of a record that isn't taken: "a line `record I N`, where I is its place from 0 among all records and N the decline"; one "that is cut short or has
 -- another tag is told as `record I malformed`"

@@ -5,7 +5,7 @@ ghost use Rattle.streams.specs.Input.{bytes_left};
 ghost use Rattle.streams.specs.Output.{has_failed, bytes_in};
 ghost use Rattle.records.specs.Records.{records_in};
 ghost use Rattle.writer.specs.Writer.{page};
-ghost use Rattle.write_run.specs.Run.{line_of, page_after, journal_of};
+ghost use Rattle.write_run.specs.Run.{line_of, page_after, page_of, journal_of};
 
 use records::call;
 use records::refusal::Refusal;
@@ -60,6 +60,7 @@ pub fn write_journal<R: Read, W: Write, E: Write>(
 ) -> Result<(), Trouble>
     ensures written { OnOk result (IfSome (bytes_left R.remaining input.old)
         (λ s. Appends (bytes_in W.contents output.old) (bytes_in W.contents output.new) (journal_of buffer.old s))) }
+    ensures lent { IfSome (bytes_left R.remaining input.old) (λ s. (IsErrOf result Trouble.Unread → ⊥) → buffer.new ≡ (page_of buffer.old s).bytes) }
     ensures unread { IsErrOf result Trouble.Unread → output.new ≡ output.old }
     ensures unwritten { IsErrOf result Trouble.Unwritten → has_failed output.new ≡ true }
 {
