@@ -41,7 +41,7 @@ pub fn check_sums(s: &[u8]) -> CheckSums
 // A byte's place, from 1. Signed and of 16 bits, which the compiler multiplies and adds eight at a time.
 // A function of its own, since with the cast in the loop a block's sums take 1.4 times as long.
 fn place_of(i: usize) -> i16
-    requires { i < 32767 }
+    requires { i < 512 }
     ensures { result ≡ pos (i + 1) }
 {
     (i + 1) as i16
