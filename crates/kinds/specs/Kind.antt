@@ -11,20 +11,17 @@ use Rattle.kinds.specs.declared.kind.Kind.{Kind}
 use Rattle.kinds.specs.declared.kind.Limits.{Limits}
 use Rattle.kinds.specs.declared.kind.Measure.{Measure}
 use Rattle.kinds.specs.declared.kind.Measure.TheVariants.{Quantity, Content, Loss}
-use Rattle.std.specs.declared.ops.Range.{Range}
+use Rattle.kinds.specs.declared.kind.Span.{Span}
 
 -- ---- limits
-
-abbrev pub Span : Type 0
-Span = Range ℕ
 
 -- the numbers from one up to another, which is not among them
 infix 20 ◌up_to◌
 abbrev pub ◌up_to◌ : ℕ → ℕ → Span
-from up_to end = record { start = from; end = end }
+from up_to end = record { from = from; end = end }
 
 abbrev pub in_span : Span → ℕ → Bool
-in_span span n = leb span.start n && ltb n span.end
+in_span span n = leb span.from n && ltb n span.end
 
 -- "A field that a kind doesn't use is zero"
 abbrev pub unused : Span

@@ -6,16 +6,22 @@ use crate::account::Account;
 use crate::fields::Post;
 use amounts::decline::Decline;
 use layout::outline::Outline;
-use std::ops::Range;
+
+// The numbers from one up to another, which is not among them.
+#[derive(Clone, Copy)]
+pub struct Span {
+    pub from: u64,
+    pub end: u64,
+}
 
 // What a post's fields may be.
-#[derive(Drop)]
+#[derive(Clone, Copy)]
 pub struct Limits {
-    pub material: Range<u64>,
-    pub stage: Range<u64>,
-    pub substance: Range<u64>,
-    pub content: Range<u64>,
-    pub quantity: Range<u64>,
+    pub material: Span,
+    pub stage: Span,
+    pub substance: Span,
+    pub content: Span,
+    pub quantity: Span,
 }
 
 // How a kind's amount is had: its quantity as stated, its quantity times its content, or the loss of its floats.
@@ -36,22 +42,31 @@ pub enum Does {
     Closes,
 }
 
-#[derive(Drop)]
+#[derive(Clone, Copy)]
 pub struct Kind {
     pub limits: Limits,
     pub measure: Measure,
     pub does: Does,
 }
 
-const UNUSED: Range<u64> = 0..1;
+const UNUSED: Span = Span { from: 0, end: 1 };
 
-const FORMS: Range<u64> = 1..4;
+const FORMS: Span = Span { from: 1, end: 4 };
 
-const CONTENTS: Range<u64> = 1..1_000_001;
+const CONTENTS: Span = Span {
+    from: 1,
+    end: 1_000_001,
+};
 
-const GRAMS: Range<u64> = 1..2_000_000_001;
+const GRAMS: Span = Span {
+    from: 1,
+    end: 2_000_000_001,
+};
 
-const MICROGRAMS: Range<u64> = 1..2_000_000_000_000_001;
+const MICROGRAMS: Span = Span {
+    from: 1,
+    end: 2_000_000_000_000_001,
+};
 
 // A kind that uses no field.
 const OF_NOTHING: Limits = Limits {
@@ -62,10 +77,13 @@ const OF_NOTHING: Limits = Limits {
     quantity: UNUSED,
 };
 
-fn below(count: u8) -> Range<u64>
+fn below(count: u8) -> Span
     ensures { result ≡ below count }
 {
-    0..u64::from(count)
+    Span {
+        from: 0,
+        end: u64::from(count),
+    }
 }
 
 fn of_stock(o: Outline) -> Limits
@@ -158,10 +176,10 @@ pub fn kind_of(o: Outline, number: u8) -> Result<Kind, Decline>
 }
 
 // Whether a number is among those that a field may be.
-fn in_span(span: &Range<u64>, n: u64) -> bool
+fn in_span(span: &Span, n: u64) -> bool
     ensures { result ≡ in_span span.now n }
 {
-    span.contains(&n)
+    (span.from..span.end).contains(&n)
 }
 
 impl Limits {
