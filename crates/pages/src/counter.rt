@@ -1,6 +1,7 @@
 // A writer that writes nothing: its calls answer as they do of a writer over a buffer of so many bytes.
-ghost use Rattle.std.specs.Prelude.{◌≡◌, ◌*◌};
+ghost use Rattle.std.specs.Prelude.{◌≡◌, ◌*◌, MatchResult};
 ghost use Rattle.amounts.specs.Decline.{checked, verdict_of};
+ghost use Rattle.amounts.specs.declared.decline.Decline.TheVariants.{NoRoom};
 ghost use Rattle.pages.specs.Tally.{fresh_tally, is_free, part_of_kind, set_up_checks, may_begin, post_answer};
 ghost use Rattle.pages.specs.Tally.{set_up_on, post_on, ended, Sound, Counts};
 
@@ -65,6 +66,18 @@ impl Counter {
         check(self.tally.outline.may_post(), Decline::OutOfTurn)?;
         moves::check_post(self.tally.outline, post)?;
         check(self.may_begin(), Decline::NoRoom)
+    }
+
+    // As far along in another room, where that holds the blocks that are written and the one that posts wait for.
+    pub fn with_room(self, room: usize) -> Result<Counter, Decline>
+        ensures { MatchResult result (λ moved. (moved.room ≡ room) × (moved.tally ≡ self.tally)) (λ why. (Sound room self.tally → ⊥) × (why ≡ NoRoom)) }
+    {
+        let begun = self.tally.blocks as usize + usize::from(self.tally.waiting != 0);
+        check(begun <= room / BLOCK_SIZE, Decline::NoRoom)?;
+        Ok(Counter {
+            room,
+            tally: self.tally,
+        })
     }
 
     // A set-up block of any kind, count and body.

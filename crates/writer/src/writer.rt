@@ -3,6 +3,7 @@ ghost use Rattle.std.specs.Prelude.{◌≡◌, ◌+◌, ◌*◌, ◌≤◌, ◌<
 ghost use Rattle.layout.specs.Frame.{body_of, block_of};
 ghost use Rattle.encoding.specs.Bytes.{placed};
 
+use crate::draft::Draft;
 use amounts::decline::Decline;
 use encoding::bytes;
 use layout::frame;
@@ -20,7 +21,7 @@ pub struct Writer<'a> {
 
 impl<'a> Writer<'a> {
     ghost use Rattle.pages.specs.Page.{posts_block, set_up_on, post_on, ended, Answers};
-    ghost use Rattle.writer.specs.Writer.{page, IsNew, Kept};
+    ghost use Rattle.writer.specs.Writer.{page, draft, IsNew, Resumes, Kept};
 
     pub fn new(buffer: &'a mut [u8]) -> Writer<'a>
         ensures { IsNew buffer.entry result }
@@ -31,6 +32,34 @@ impl<'a> Writer<'a> {
             counter,
             block: [0; 512],
         }
+    }
+
+    // How many bytes are filled.
+    pub fn filled(&self) -> usize
+        ensures { result ≡ (page self.now).filled }
+    {
+        self.counter.filled()
+    }
+
+    // How far the writer has come, to go on from there later.
+    pub fn draft(&self) -> Draft
+        ensures { draft result ≡ (page self.now).draft }
+    {
+        Draft {
+            counter: self.counter,
+            block: self.block,
+        }
+    }
+
+    // The writer goes on from an earlier draft, its own or another's, where the buffer has room for it. The draft's blocks are taken to stand in the buffer.
+    pub fn resume(&mut self, earlier: Draft) -> Result<(), Decline>
+        ensures kept { Kept self.old self.new }
+        ensures resumes { Resumes (page self.old) (draft earlier) result (page self.new) }
+    {
+        let Draft { counter, block } = earlier;
+        self.counter = counter.with_room(self.counter.room)?;
+        self.block = block;
+        Ok(())
     }
 
     // A set-up block of any kind, count and body.

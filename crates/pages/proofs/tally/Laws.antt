@@ -123,7 +123,7 @@ pub record Taken (room : ℕ) (t : Tally) (part : SetupPart) (count : ℕ) (body
 
 module _ (room : ℕ) (t : Tally) (sound : Sound room t) where
   -- while no post may come, none waits
-  none_waits : may_post t.outline ≡ false → t.waiting ≡ 0
+  pub none_waits : may_post t.outline ≡ false → t.waiting ≡ 0
   none_waits e = go (eqb t.waiting 0) refl
     where
       go : (b : Bool) → eqb t.waiting 0 ≡ b → t.waiting ≡ 0
@@ -183,17 +183,21 @@ module _ (room : ℕ) (t : Tally) (sound : Sound room t) where
       go true e = sound
       go false e = finished_sound (sound.begun (omega (arith, eqb-false t.waiting 0 e)))
 
+  -- a post in its turn that may begin its block, or joins one that is begun
+  pub begun : may_post t.outline ≡ true → may_begin room t ≡ true → Begun room t
+  begun m e = go (eqb t.waiting 0) refl e
+    where
+      go : (b : Bool) → eqb t.waiting 0 ≡ b → cond b (is_free room t) true ≡ true → Begun room t
+      go true z f = let free = is_free_lem room t f in record { number = free.number; room_left = free.fits; in_turn = m }
+      go false z f = sound.begun (omega (arith, eqb-false t.waiting 0 z))
+
   -- a post that is taken is in its turn, and where it begins a block there is room
   pub post_taken : (s : List ℕ) → Ok (tt {0}) ≡ verdict_of (post_answer room t s) → Begun room t
   unfolding checked
   post_taken s e = go (may_post t.outline) (verdict_of (well_formed t.outline s)) (may_begin room t) refl refl (e ∙ post_verdict room t s)
     where
-      begun : may_post t.outline ≡ true → (b : Bool) → eqb t.waiting 0 ≡ b → cond b (is_free room t) true ≡ true → Begun room t
-      begun m true z f = let free = is_free_lem room t f in record { number = free.number; room_left = free.fits; in_turn = m }
-      begun m false z f = sound.begun (omega (arith, eqb-false t.waiting 0 z))
-
       go : (m : Bool) (w : Answer Unit) (b : Bool) → may_post t.outline ≡ m → may_begin room t ≡ b → Ok (tt {0}) ≡ verdict_from m w b → Begun room t
-      go true (Ok k) true p q f = begun p (eqb t.waiting 0) refl q
+      go true (Ok k) true p q f = begun p q
       go true (Ok k) false p q f = cc
       go true (Err n) b p q f = cc
       go false w b p q f = cc
