@@ -1,6 +1,6 @@
 // A whole journal on a fresh book.
 ghost use Rattle.std.specs.Prelude.{◌≡◌};
-ghost use Rattle.book.specs.Site.{fresh_book};
+ghost use Rattle.book.specs.Site.{Sound, fresh_book};
 ghost use Rattle.book.specs.Blocks.{parts_in, read_all};
 
 use crate::site::Book;
@@ -11,6 +11,17 @@ use amounts::decline::Decline;
 pub struct Refused {
     pub place: u32,
     pub decline: Decline,
+}
+
+impl Refused {
+    // A journal that is refused leaves a fresh book.
+    #[tactic(auto, using(crate::proofs::site::Laws::sound_fresh))]
+    pub fn book(self) -> Book
+        ensures value { result ≡ fresh_book }
+        ensures sound { Sound result }
+    {
+        Book::new()
+    }
 }
 
 // The book after the blocks of a journal, or the first that is declined. No block copies the book.
