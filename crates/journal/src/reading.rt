@@ -16,10 +16,12 @@ pub struct Reading {
 }
 
 impl Reading {
+    ghost use Rattle.book.specs.Site.{Sound};
     ghost use Rattle.journal.specs.Reading.{started, fed, has_stopped, text_of, Advances};
 
     pub fn new() -> Reading
-        ensures { result ≡ started }
+        ensures value { result ≡ started }
+        ensures sound { Sound result.book }
     {
         Reading {
             book: Book::new(),
@@ -30,11 +32,14 @@ impl Reading {
     // One part more: 512 bytes, or a shorter last part. After a decline nothing changes.
     pub fn feed(&mut self, part: &[u8])
         ensures value { self.new ≡ fed self.old part.now }
+        ensures sound { Sound self.new.book }
         ensures advances { Advances self.old self.new }
     {
         if self.stopped.is_none() {
             self.stopped = self.book.take_block(part).err();
         }
+        // Sound: reading the book tells it.
+        prove!(self.book.block_number() <= 65536);
     }
 
     // Whether a part was declined, after which no other counts.

@@ -7,7 +7,8 @@ use Rattle.encoding.proofs.Each.{sum_again, sum_mono}
 use Rattle.plant.specs.Setup.{no_stage, Rated, SoundSetup}
 use Rattle.plant.specs.declared.setup.Setup.{Setup}
 use Rattle.book.specs.Ledger.{total}
-use Rattle.book.specs.Site.{Book, Sound}
+use Rattle.book.specs.Site.{Book, Sound, SoundYear}
+use Rattle.book.specs.declared.site.Year.{Year}
 use Rattle.book.proofs.ledger.Laws.{column, total_is}
 use Rattle.report.specs.Fate.{to_sewer, to_public_water, to_landfill, to_off_site, rates_of, cells_of, fate_from, stage_fate, fate_to, weigh}
 use Rattle.report.specs.Steps.{no_fate, add_fates}
@@ -65,9 +66,12 @@ module _ (sums : List ℕ) (u : Setup) (s : ℕ) where
 
 -- ---- of a sound book
 
--- what a sound book holds of a substance
+-- what a sound year holds of a substance, and a sound book
+pub year_total_fits : (u : Setup) (y : Year) → SoundYear u y → (s : ℕ) → s < 8 → total y.sums s < 2 ^ 64
+year_total_fits u y h s hs = omega (arith, h.posts_few, h.bounded s hs)
+
 pub total_fits : (b : Book) (s : ℕ) → Sound b → s < 8 → total b.year.sums s < 2 ^ 64
-total_fits b s h hs = omega (arith, h.year.posts_few, h.year.bounded s hs)
+total_fits b s h hs = year_total_fits b.setup b.year h.year s hs
 
 pub rates_fit : (b : Book) (s k : ℕ) → Sound b → Rated (rates_of b.setup k s)
 rates_fit b s k h = h.setup.rated (k * 8 + s)

@@ -4,7 +4,9 @@ use Rattle.amounts.specs.Filed.{step_of, filed_of}
 use Rattle.amounts.proofs.filed.Laws.{filed_within}
 use Rattle.encoding.proofs.Each.{sum_again, sum_mono}
 use Rattle.book.specs.Ledger.{brings, total}
-use Rattle.book.specs.Site.{Book, stored, stored_to, in_year, Sound}
+use Rattle.book.specs.Site.{Book, stored, stored_to, in_year, Sound, SoundYear}
+use Rattle.book.specs.declared.site.Year.{Year}
+use Rattle.plant.specs.declared.setup.Setup.{Setup}
 use Rattle.report.specs.Fate.{six_of, weigh, map_headings}
 use Rattle.report.specs.Report.{report_at}
 use Rattle.report.specs.declared.fate.Headings.{Headings}
@@ -19,9 +21,12 @@ stored_le store counted s m h =
     let each : ℕ → ℕ = λ m. brings counted m (get_or store m 0) s in
     omega (arith, sum_again m each, sum_mono (m + 1) 12 each (omega arith))
 
--- what a sound book has in store of a substance
+-- what a sound year has in store of a substance, and a sound book
+pub year_stored_fits : (u : Setup) (y : Year) → SoundYear u y → (s : ℕ) → s < 8 → stored u y s < 2 ^ 64
+year_stored_fits u y h s hs = omega (arith, h.posts_few, h.bounded s hs)
+
 pub stored_fits : (b : Book) (s : ℕ) → Sound b → s < 8 → stored b.setup b.year s < 2 ^ 64
-stored_fits b s h hs = omega (arith, h.year.posts_few, h.year.bounded s hs)
+stored_fits b s h hs = year_stored_fits b.setup b.year h.year s hs
 
 -- ---- what a report says, over a sound book
 

@@ -1,5 +1,5 @@
 -- The digits of a number and of a figure, and how many there are. Assumes nothing.
-use Rattle.std.proofs.Common.{◌≡◌, ◌∙◌, [], ◌∷◌, ◌++◌, ◌%◌, ℕ, zero, suc, ◌/◌, ◌^◌, ◌≤◌, ◌<◌, length, rules, arith}
+use Rattle.std.proofs.Common.{◌≡◌, ◌∙◌, [], ◌∷◌, ◌++◌, ◌%◌, ℕ, zero, suc, ◌/◌, ◌^◌, ◌≤◌, ◌<◌, length, length-append, rules, arith}
 use native.Mathlib.Nat.{pow-suc}
 use borrow.Author.Tests.{lt-ltb, le-ltb}
 use Rattle.std.specs.Fmt as std
@@ -25,6 +25,15 @@ decimal_is x h = digits_more 19 x (omega arith) ∙ decimal_from_appends digits_
 pub decimal_small : (x : ℕ) → x < 10 → decimal x ≡ digit x ∷ []
 unfolding digits_to
 decimal_small x h = grind (arith, nat_tests)
+
+digits_few : (n x : ℕ) → length (digits_to n x) ≤ suc n
+unfolding digits_to
+digits_few zero x = omega arith
+digits_few (suc n) x = grind (arith, nat_tests, length-append {A = ℕ}, digits_few n (x / 10))
+
+-- of any number
+pub decimal_few : (x : ℕ) → length (decimal x) ≤ 20
+decimal_few x = digits_few 19 x
 
 pub decimal_short : (x : ℕ) → x < 10 ^ 11 → length (decimal x) ≤ 11
 decimal_short x h = rw (decimal_is x (omega arith)) (length-decimal-le 11 x (omega arith) h (omega arith))

@@ -15,14 +15,14 @@ returns-in_err-m-clause-book c = rw (← c.self.view_is) (sym (ap (value_or _) (
 pub enter-requires : goal.enter-requires
 enter-requires c = room_admitted _ _ _ _ c.self.invariant.setup c.self.invariant.year c.in_ok-m.ensures
 
-pub invariant_of-self : goal.invariant_of-self
-invariant_of-self c =
-    let i = c.self.inside in
-    let year = entered_to (book_with i.setup i.year i.blocks) c.args.s.now _ c.in_ok-m.ensures _ c.enter.ensures.year in
-    sound_posted _ _ _ _ _ c.self.invariant year
-
 pub returns-clause-verdict : goal.returns-clause-verdict
 returns-clause-verdict c = rw (← c.self.view_is) (entered_as _ _ _ c.in_ok-m.ensures _ c.enter.ensures.verdict)
 
 pub returns-clause-book : goal.returns-clause-book
 returns-clause-book c = rw (← c.self.view_is) (entered_book _ _ _ c.in_ok-m.ensures _ c.enter.ensures.year)
+
+pub invariant_of-self : goal.invariant_of-self
+invariant_of-self c =
+    let i = c.self.inside in
+    let year = entered_to (book_with i.setup i.year i.blocks) c.args.s.now _ c.in_ok-m.ensures _ c.enter.ensures.year in
+    sound_posted _ _ _ _ _ c.self.invariant year

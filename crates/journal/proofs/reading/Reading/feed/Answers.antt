@@ -4,5 +4,5 @@ use Rattle.journal.proofs.reading.Left.{advances}
 use Rattle.journal.proofs.reading.Reading.feed.Goals as goal
 
 -- the bytes of a part are bytes
-pub returns-then-is_none-clause-advances : goal.returns-then-is_none-clause-advances
-returns-then-is_none-clause-advances c = advances _ _ c.args.part.now (λ i. (c.type_inv.part i).fits) (grind (arith, common_steps))
+pub returns-clause-advances : goal.returns-clause-advances
+returns-clause-advances c = advances _ _ c.args.part.now (λ i. (c.type_inv.part i).fits) (grind (arith, common_steps))
