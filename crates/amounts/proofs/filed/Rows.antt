@@ -1,5 +1,6 @@
 -- A search of the code's rows by their amounts, which rise, finds the case that the definition does. Assumes nothing.
-use Rattle.std.proofs.Common.{◌≡◌, ℕ, zero, suc, ◌+◌, ◌-◌, ◌<◌, ◌≤◌, Bool, true, false, List, [], ◌∷◌, length, map, get_or, leb, leb-false, refl, sym, ap, ◌∙◌, arith}
+use Rattle.std.proofs.Common.{◌≡◌, ℕ, zero, suc, ◌+◌, ◌-◌, ◌<◌, ◌≤◌, Bool, true, false, List, [], ◌∷◌, length, map, get_or, leb, leb-false}
+use Rattle.std.proofs.Common.{refl, sym, ap, ◌∙◌, arith}
 use Rattle.std.specs.List.{AllAdjacentBelow}
 use Rattle.std.specs.List.Sorted.{IsPartitionPoint, IsPartitionedBy}
 use Rattle.std.proofs.lemmas.List.Sorted.{IsNonDecreasingBy-from_all_adjacent, IsPartitionedBy-leb}
@@ -8,12 +9,9 @@ use Rattle.amounts.specs.declared.filed.Case.{Case}
 use Rattle.amounts.specs.declared.filed.Row as code
 use Rattle.amounts.specs.declared.filed.TheConstants.{ROWS}
 
-abbrev as_row : code.Row → Row
+-- a row of the code as one of the definition
+abbrev pub as_row : code.Row → Row
 as_row r = r.from steps r.step
-
-rows_as_coded : rows ≡ map as_row ROWS
-unfolding rows
-rows_as_coded = refl
 
 -- the case that is last reached where i of the rows are, numbered on from n
 abbrev after : ℕ → Case → List code.Row → ℕ → code.Row → Case
@@ -66,12 +64,13 @@ module _ (a : ℕ) where
   some zero point = absurd (omega (arith, leb-false 0 a (point.1 0 (record { from = 0; step = 0 }) (omega arith) (omega arith))))
   some (suc i) point = omega arith
 
-  pub found : (i : ℕ) (d : code.Row) → i ≤ 11 → Point i → record { number = i - 1; step = (get_or ROWS (i - 1) d).step } ≡ case_of a
+  -- so where the rows are the definition's, the last that is reached has the case
+  pub found : rows ≡ map as_row ROWS → (i : ℕ) (d : code.Row) → i ≤ 11 → Point i → record { number = i - 1; step = (get_or ROWS (i - 1) d).step } ≡ case_of a
   unfolding case_of
-  found zero d h point = absurd (omega (arith, some 0 point))
-  found (suc i) d h point =
+  found same zero d h point = absurd (omega (arith, some 0 point))
+  found same (suc i) d h point =
       let last : suc i - 1 ≡ i = omega arith in
       let first : 0 + i ≡ i = omega arith in
       let there = in_rows 0 (record { number = 0; step = 0 }) ROWS (suc i) d h (λ k l. point.0 k d (omega arith) l) (λ k l m. point.1 k d l m) in
-      let by_definition = ap (λ (table : List Row). case_in 0 (record { number = 0; step = 0 }) table a) rows_as_coded in
+      let by_definition = ap (λ (table : List Row). case_in 0 (record { number = 0; step = 0 }) table a) same in
       rw last (sym (by_definition ∙ rw first at there))
