@@ -3,7 +3,7 @@ use Rattle.filing_run.proofs.run.Laws.{prints_at_start, prints_on, prints_at_end
 use Rattle.filing_run.proofs.run.read_journal.Goals as goal
 
 pub loop-space-init : goal.loop-space-init
-loop-space-init g c = rw c.new-reading.ensures (prints_at_start _)
+loop-space-init g c = rw c.new-reading.ensures.value (prints_at_start _)
 
 pub returns-then-n-eq0 : goal.returns-then-n-eq0
 returns-then-n-eq0 g c = prints_at_end _ _ _ _ c.read_part.new.part c.read_part.result (search rules) (search rules) c.read_part.ensures.took c.loop-space.invariant
