@@ -9,7 +9,7 @@ use std::io::{ErrorKind, Read};
 use std::ops::ControlFlow;
 
 /// An input, and how many parts may still be asked for: a program ends, and nothing says that its input does.
-#[derive(Drop)]
+#[derive(Clone, Copy, Drop)]
 pub struct Input<R> {
     from: R,
     left: u64,
