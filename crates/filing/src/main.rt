@@ -9,6 +9,6 @@ fn main(rt: HostRuntime) {
     let mut input = Input::new(rt.stdin());
     let mut output = Output::new(rt.stdout());
     if let Err(trouble) = run::print_return(&mut input, &mut output) {
-        let _ = eprintln!(rt; "filing: {trouble}");
+        let _ = trouble.tell("filing", &mut rt.stderr());
     }
 }

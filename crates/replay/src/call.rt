@@ -6,6 +6,7 @@ use report::report::report_of;
 use std::io;
 use std::io::Write;
 use stock::sheet::difference_of;
+use streams::output::Output;
 use streams::record::Record;
 
 #[derive(Clone, Copy)]
@@ -35,10 +36,10 @@ impl<'a> Call<'a> {
     }
 
     /// Writes the line of what the book answers.
-    pub(crate) fn answer<W: Write>(self, book: &mut Book, out: &mut W) -> io::Result<()> {
+    pub(crate) fn answer<W: Write>(self, book: &mut Book, out: &mut Output<W>) -> io::Result<()> {
         match self {
-            Call::Post(s) => line::verdict(out, "post", book.take_post(s)),
-            Call::Block(s) => line::verdict(out, "block", book.take_block(s)),
+            Call::Post(s) => line::post(out, book.take_post(s)),
+            Call::Block(s) => line::block(out, book.take_block(s)),
             Call::Report(place) => line::report(out, place, report_of(book, usize::from(place))),
             Call::Stock { material, grams } => {
                 line::stock(out, difference_of(book, usize::from(material), grams))

@@ -3,17 +3,22 @@ use amounts::decline::Decline;
 use report::report::Report;
 use std::io;
 use std::io::Write;
+use streams::output::Output;
 
 /// 0 where the call was accepted, and else the decline's number.
-pub(crate) fn verdict<W: Write>(
-    out: &mut W,
-    call: &str,
-    answer: Result<(), Decline>,
-) -> io::Result<()> {
-    writeln!(out, "{call} {}", answer.err().map_or(0, Decline::number))
+fn verdict(answer: Result<(), Decline>) -> u8 {
+    answer.err().map_or(0, Decline::number)
 }
 
-pub(crate) fn stock<W: Write>(out: &mut W, answer: Result<i64, Decline>) -> io::Result<()> {
+pub(crate) fn post<W: Write>(out: &mut Output<W>, answer: Result<(), Decline>) -> io::Result<()> {
+    writeln!(out, "post {}", verdict(answer))
+}
+
+pub(crate) fn block<W: Write>(out: &mut Output<W>, answer: Result<(), Decline>) -> io::Result<()> {
+    writeln!(out, "block {}", verdict(answer))
+}
+
+pub(crate) fn stock<W: Write>(out: &mut Output<W>, answer: Result<i64, Decline>) -> io::Result<()> {
     match answer {
         Ok(0) => writeln!(out, "stock 0"),
         Ok(grams) => writeln!(out, "stock {grams:+}"),
@@ -21,7 +26,7 @@ pub(crate) fn stock<W: Write>(out: &mut W, answer: Result<i64, Decline>) -> io::
     }
 }
 
-fn known<W: Write>(out: &mut W, r: Report) -> io::Result<()> {
+fn known<W: Write>(out: &mut Output<W>, r: Report) -> io::Result<()> {
     let Report {
         posts,
         number,
@@ -46,7 +51,7 @@ fn known<W: Write>(out: &mut W, r: Report) -> io::Result<()> {
 }
 
 pub(crate) fn report<W: Write>(
-    out: &mut W,
+    out: &mut Output<W>,
     place: u8,
     answer: Result<Report, Decline>,
 ) -> io::Result<()> {

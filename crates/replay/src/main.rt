@@ -35,6 +35,6 @@ fn run<R: Read, W: Write>(from: &mut R, to: &mut W) -> Result<(), Trouble> {
 
 fn main(rt: HostRuntime) {
     if let Err(trouble) = run(&mut rt.stdin(), &mut rt.stdout()) {
-        let _ = eprintln!(rt; "replay: {trouble}");
+        let _ = trouble.tell("replay", &mut rt.stderr());
     }
 }

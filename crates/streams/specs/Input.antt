@@ -1,8 +1,11 @@
 -- An input, a part at a time.
-use Rattle.std.specs.Prelude.{ℕ, ◌+◌, ◌-◌, ◌^◌, ◌<◌, ◌≤◌, ◌≡◌, Option, Result, Ok, Err, IfErr, List, All, length, take}
+use Rattle.std.specs.Prelude.{ℕ, ◌+◌, ◌-◌, ◌^◌, ◌<◌, ◌≤◌, ◌≡◌, cond, eqb, Option, Result, Ok, Err, IfErr, List, All, length, take, drop}
 use Rattle.std.specs.List.{FoldsTo}
 use Rattle.std.specs.IoError.{error_kind}
-use Rattle.std.specs.Io.KnownBytes.{Consumes, IsAtEnd}
+use Rattle.std.specs.Io.{ReadsAtMost}
+use Rattle.std.specs.Io.KnownBytes.{Consumes, ReadConsumes, IsAtEnd}
+use Rattle.std.specs.declared.ops.ControlFlow.{ControlFlow}
+use Rattle.std.specs.declared.ops.ControlFlow.TheVariants.{Continue, Break}
 use Rattle.std.specs.declared.io.Error.{Error}
 use Rattle.std.specs.declared.io.ErrorKind.TheVariants.{Interrupted}
 use Rattle.streams.specs.declared.input.Input.{Input}
@@ -23,6 +26,26 @@ pub record Retried {F T : Type 0} (step : F → Result T Error → F → Type 0)
   pub gives_up : IfErr r (λ e. IsInterrupted e → length failed + 1 ≡ tries)
 
 -- ---- a part
+
+-- a read goes on behind the bytes that are there, and leaves those
+pub record Behind (done : ℕ) (given after : List ℕ) (got : Result ℕ Error) : Type 0 where
+  pub same_length : length after ≡ length given
+  pub kept : take done after ≡ take done given
+  pub bound : ReadsAtMost got (drop done after)
+
+-- a part of which so many bytes are there, or what became of it
+abbrev pub Progress : Type 0
+Progress = ControlFlow (Result ℕ Error) ℕ
+
+-- a read that fails is a failure, wherever it comes; only a read that answers 0 is the end, with the bytes in front of it
+abbrev pub after_read : ℕ → Result ℕ Error → Progress
+after_read done (Ok n) = cond (eqb n 0) (Break (Ok done)) (Continue (done + n))
+after_read done (Err e) = Break (Err e)
+
+-- one read more of a part that goes on, with an input's known bytes before and after
+abbrev pub GoesOn : Option (List ℕ) → Option (List ℕ) → ℕ → List ℕ → List ℕ → Progress → Type 0
+GoesOn before after done given part p =
+    (got : Result ℕ Error) × Behind done given part got × ReadConsumes before after got (drop done part) × (p ≡ after_read done got)
 
 -- what a part holds of an input of known bytes: the next ones, with none behind a part that isn't full; where a read failed, some may be gone
 abbrev pub PartTook : {E : Type 0} → Option (List ℕ) → Option (List ℕ) → List ℕ → Result ℕ E → Type 0

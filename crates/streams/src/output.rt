@@ -1,14 +1,15 @@
 // An output. Behind a write that failed nothing more is written.
-ghost use Rattle.std.specs.Prelude.{◌≡◌, ◌<◌, length, true, false, IfOk, OnOk, IsErr, is_err};
+ghost use Rattle.std.specs.Prelude.{◌≡◌, ◌<◌, length, true, false, IfOk, IfSome, OnOk, IsErr, is_err};
 ghost use Rattle.std.specs.Io.{WritesAtMost};
 ghost use Rattle.std.specs.Io.KnownBytes.{Appends, Keeps, WriteAppends};
 ghost use Rattle.streams.specs.Output.{Stays, has_failed, writer_of, bytes_in};
 
+use std::fmt::Display;
 use std::io;
 use std::io::{ErrorKind, Write};
 
 /// A flag, and not an `Option` of the writer: what is known of a writer's bytes stays known behind a failure.
-#[derive(Drop)]
+#[derive(Clone, Copy, Drop)]
 pub struct Output<W> {
     to: W,
     has_failed: bool,
@@ -33,6 +34,20 @@ impl<W> Output<W> {
             return Err(ErrorKind::BrokenPipe.into());
         }
         Ok(())
+    }
+}
+
+impl<W: Write> Output<W> {
+    /// What `write!` and `writeln!` call: a text in its pieces, up to the first that fails.
+    pub fn write_fmt<D: Display + Drop>(&mut self, text: D) -> io::Result<()>
+        ensures bytes { OnOk result (IfSome (D.output text) (Appends (bytes_in W.contents self.old) (bytes_in W.contents self.new))) }
+        ensures told { has_failed self.new ≡ is_err result }
+        ensures stays { Stays self.old result self.new }
+    {
+        Output::check(self)?;
+        let answer = Write::write_fmt(self, text);
+        self.has_failed = answer.is_err();
+        answer
     }
 }
 

@@ -1,11 +1,12 @@
 // The records of an input: a tag byte, a length in 16 bits with the low byte first, and that many bytes.
-ghost use Rattle.std.specs.Prelude.{◌≡◌, ◌+◌, IfOk, OnSome, IsErr, length};
+ghost use Rattle.std.specs.Prelude.{◌≡◌, ◌+◌, ◌<◌, IfOk, OnSome, IsErr, length};
 ghost use Rattle.streams.specs.Input.{parts_left, bytes_left};
-ghost use Rattle.streams.specs.Record.{RecordTook};
+ghost use Rattle.streams.specs.Record.{head_of, start_of, record_of, RecordTook};
 
 use crate::input::Input;
 use std::io;
 use std::io::Read;
+use std::ops::ControlFlow;
 
 #[derive(Clone, Copy)]
 pub struct Record<'a> {
@@ -31,6 +32,55 @@ impl From<io::Error> for RecordError {
     }
 }
 
+/// A record's head: its tag, and the length of its body.
+#[derive(Clone, Copy)]
+struct Head {
+    tag: u8,
+    size: usize,
+}
+
+/// A tag byte, and a length in 16 bits with the low byte first.
+fn head_of(bytes: [u8; 3]) -> Head
+    ensures value { result ≡ head_of bytes }
+    ensures upper_bound { result.size < 65536 }
+{
+    let [tag, low, high] = bytes;
+    Head {
+        tag,
+        size: usize::from(u16::from_le_bytes([low, high])),
+    }
+}
+
+/// By what became of the part that is a record's head.
+fn start_of<'a>(
+    part: io::Result<usize>,
+    head: Head,
+    room: usize,
+) -> ControlFlow<Result<Option<Record<'a>>, RecordError>, Head>
+    ensures { result ≡ start_of room head part }
+{
+    match part {
+        Ok(0) => ControlFlow::Break(Ok(None)),
+        Ok(n) if n < 3 || head.size > room => ControlFlow::Break(Err(RecordError::Malformed)),
+        Ok(_) => ControlFlow::Continue(head),
+        Err(e) => ControlFlow::Break(Err(RecordError::Unread(e))),
+    }
+}
+
+/// By what became of the part that is its body.
+fn record_of<'a>(
+    tag: u8,
+    body: &'a [u8],
+    part: io::Result<usize>,
+) -> Result<Option<Record<'a>>, RecordError>
+    ensures { result ≡ record_of tag body.entry part }
+{
+    if part? < body.len() {
+        return Err(RecordError::Malformed);
+    }
+    Ok(Some(Record { tag, body }))
+}
+
 impl<R: Read> Input<R> {
     /// Reads the next record into the space that is lent; none is left at the input's end.
     pub fn read_record<'a>(
@@ -41,20 +91,14 @@ impl<R: Read> Input<R> {
         ensures counted { IfOk result (λ r. OnSome r (parts_left self.new + 2 ≡ parts_left self.old)) }
         ensures spent { parts_left self.old ≡ 0 → IsErr result }
     {
-        let mut head = [0; 3];
-        let n = self.read_part(&mut head)?;
-        if n == 0 {
-            return Ok(None);
-        }
-        let [tag, low, high] = head;
-        let size = usize::from(u16::from_le_bytes([low, high]));
-        if n < head.len() || size > space.len() {
-            return Err(RecordError::Malformed);
-        }
-        let body = &mut space[..size];
-        if self.read_part(body)? < size {
-            return Err(RecordError::Malformed);
-        }
-        Ok(Some(Record { tag, body }))
+        let mut bytes = [0; 3];
+        let part = self.read_part(&mut bytes);
+        let head = match start_of(part, head_of(bytes), space.len()) {
+            ControlFlow::Continue(head) => head,
+            ControlFlow::Break(answer) => return answer,
+        };
+        let body = &mut space[..head.size];
+        let part = self.read_part(body);
+        record_of(head.tag, body, part)
     }
 }

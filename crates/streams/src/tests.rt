@@ -1,7 +1,9 @@
-// What no clause says: a failure that is told was one, how often a read is tried, and that nothing reaches an output that failed.
+// What no clause says: a failure that is told was one, how often a read is tried, that nothing reaches an output that failed, and that each piece of a line on
+// standard error is tried.
 use crate::input::Input;
 use crate::output::Output;
 use crate::record::{Record, RecordError};
+use crate::trouble::Trouble;
 use std::io;
 use std::io::{ErrorKind, Read, Write};
 
@@ -129,4 +131,12 @@ fn writes_nothing_behind_a_failure(rt: HostRuntime) {
     let mut output = Output::new(&mut to);
     assert!(rt; write!(output, "{}{}", 1, "ab").is_ok());
     assert_eq!(rt; to.calls, 3);
+}
+
+#[test]
+fn tells_what_failed_behind_a_name_that_failed(rt: HostRuntime) {
+    let mut to = Faulty::new(0, 1, ErrorKind::Other);
+    let told = Trouble::Unread.tell("filing", &mut to);
+    assert!(rt; told.is_err());
+    assert_eq!(rt; to.calls, 1 + 31);
 }

@@ -1,6 +1,11 @@
 // Why a program stops.
+ghost use Rattle.std.specs.Prelude.{OnOk};
+ghost use Rattle.std.specs.Io.KnownBytes.{Appends};
+ghost use Rattle.streams.specs.Trouble.{line_of};
+
 use std::error::Error;
-use std::fmt;
+use std::io::Write;
+use std::{fmt, io};
 
 /// Which of a program's streams failed. Its text is what the line on standard error says.
 #[derive(Clone, Copy, Debug)]
@@ -24,3 +29,18 @@ impl fmt::Display for Trouble {
 }
 
 impl Error for Trouble {}
+
+impl Trouble {
+    /// The line on standard error: the program's name, and what failed. Each of the two is tried, whatever became of the other.
+    pub fn tell<E: Write>(self, program: &str, errors: &mut E) -> io::Result<()>
+        ensures { OnOk result (Appends (E.contents errors.old) (E.contents errors.new) (line_of program.now self)) }
+    {
+        let name = errors.write_all(program.as_bytes());
+        match self {
+            Trouble::Unread => name.and(errors.write_all(b": standard input can't be read\n")),
+            Trouble::Unwritten => {
+                name.and(errors.write_all(b": standard output can't be written\n"))
+            }
+        }
+    }
+}

@@ -17,6 +17,6 @@ fn main(rt: HostRuntime) {
         &mut rt.stderr(),
         buffer.as_mut_slice(),
     ) {
-        let _ = eprintln!(rt; "write: {trouble}");
+        let _ = trouble.tell("write", &mut rt.stderr());
     }
 }

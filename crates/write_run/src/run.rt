@@ -5,23 +5,63 @@ ghost use Rattle.streams.specs.Input.{bytes_left};
 ghost use Rattle.streams.specs.Output.{has_failed, bytes_in};
 ghost use Rattle.records.specs.Records.{records_in};
 ghost use Rattle.writer.specs.Writer.{page};
-ghost use Rattle.write_run.specs.Run.{line_of, page_after, page_of, journal_of};
+ghost use Rattle.write_run.specs.Run.{line_of, made_by, what_follows, page_after, page_of, journal_of};
 
 use records::call;
 use records::refusal::Refusal;
 use std::io;
 use std::io::{ErrorKind, Read, Write};
+use std::ops::ControlFlow;
 use streams::input::Input;
 use streams::output::Output;
-use streams::record::RecordError;
+use streams::record::{Record, RecordError};
 use streams::trouble::Trouble;
 use writer::writer::Writer;
 
-/// The line of a record that isn't taken.
+/// The line of a record that isn't taken. Each piece is tried, whatever became of the one before.
 fn tell<E: Write>(errors: &mut E, place: u64, refusal: Refusal) -> io::Result<()>
     ensures { OnOk result (Appends (E.contents errors.old) (E.contents errors.new) (line_of place refusal)) }
 {
-    writeln!(errors, "record {place} {refusal}")
+    let name = errors.write_all(b"record ");
+    let number = write!(errors, "{place}");
+    match refusal {
+        Refusal::Declined(decline) => {
+            let space = errors.write_all(b" ");
+            let why = write!(errors, "{decline}");
+            let end = errors.write_all(b"\n");
+            name.and(number).and(space).and(why).and(end)
+        }
+        Refusal::Malformed => {
+            let end = errors.write_all(b" malformed\n");
+            name.and(number).and(end)
+        }
+    }
+}
+
+/// What a record that was read makes of the writer, or what there was in its place: none follows the input's end, a malformed one or a read that failed.
+fn answer<E: Write>(
+    read: Result<Option<Record<'_>>, RecordError>,
+    writer: &mut Writer<'_>,
+    place: u64,
+    errors: &mut E,
+) -> ControlFlow<io::Result<()>>
+    ensures lent { writer.new.buffer.ghost_name ≡ writer.old.buffer.ghost_name }
+    ensures made { page writer.new ≡ made_by (page writer.old) read.entry }
+    ensures follows { result ≡ what_follows (page writer.old) read.entry }
+{
+    let taken = match read {
+        Ok(None) => return ControlFlow::Break(Ok(())),
+        Ok(Some(record)) => call::take(writer, record.tag, record.body),
+        Err(RecordError::Malformed) => Err(Refusal::Malformed),
+        Err(RecordError::Unread(e)) => return ControlFlow::Break(Err(e)),
+    };
+    if let Err(refusal) = taken {
+        let _ = tell(errors, place, refusal);
+        if refusal == Refusal::Malformed {
+            return ControlFlow::Break(Ok(()));
+        }
+    }
+    ControlFlow::Continue(())
 }
 
 /// Takes the records up to the end of the input or to a malformed one, and tells of those that aren't taken.
@@ -35,17 +75,9 @@ fn take_records<R: Read, E: Write>(
 {
     let mut space = [0; 65536];
     for place in 0..u64::MAX {
-        let taken = match input.read_record(&mut space) {
-            Ok(None) => return Ok(()),
-            Ok(Some(record)) => call::take(writer, record.tag, record.body),
-            Err(RecordError::Malformed) => Err(Refusal::Malformed),
-            Err(RecordError::Unread(e)) => return Err(e),
-        };
-        if let Err(refusal) = taken {
-            let _ = tell(errors, place, refusal);
-            if refusal == Refusal::Malformed {
-                return Ok(());
-            }
+        let read = input.read_record(&mut space);
+        if let ControlFlow::Break(end) = answer(read, writer, place, errors) {
+            return end;
         }
     }
     Err(ErrorKind::Other.into())

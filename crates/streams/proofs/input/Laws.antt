@@ -1,13 +1,13 @@
 -- Calls that are made again, and parts of known bytes. Assumes nothing.
-use Rattle.std.proofs.Common.{◌≡◌, ℕ, ◌+◌, ◌≤◌, List, [], ◌∷◌, ◌++◌, length, take, drop, Option, None, Some, Result, Ok, Err, MutBor, refl, sym, ap}
-use Rattle.std.proofs.Common.{◌∙◌, subst, le_refl, drop_at, length-take-le}
+use Rattle.std.proofs.Common.{◌≡◌, ℕ, ◌+◌, ◌-◌, ◌≤◌, ◌<◌, Bool, true, false, cond, eqb, List, [], ◌∷◌, length, take, drop, Option, None, Some, Result, Ok, Err}
+use Rattle.std.proofs.Common.{Continue, Break, MutBor, refl, sym, ap, ◌∙◌, subst, arith, length-drop}
 use Rattle.std.proofs.KnownBytes.{Keeps-refl, Keeps-trans, Consumes-trans}
-use Rattle.std.proofs.lemmas.Slice.{take-put_mid_below}
 use Rattle.std.specs.List.{FoldsTo}
+use Rattle.std.specs.Io.{ReadsAtMost}
 use Rattle.std.specs.Io.KnownBytes.{Keeps, Consumes, ReadConsumes}
 use Rattle.std.specs.declared.io.Error.{Error}
-use borrow.Rule.Slice.PartMut.{put_mid, post_of}
-use lib.Seq.{take-add, take-append-le}
+use Rattle.streams.specs.Input.{Progress, after_read, GoesOn}
+use lib.Seq.{take-add}
 
 -- ---- calls that are made again
 
@@ -40,15 +40,23 @@ read_behind a b c (Err e) part p q = Keeps-trans a b c p q
 
 -- ---- a part
 
--- what stands behind the bytes that are there is what was read into the rest
-pub take_more : (done k n : ℕ) (part free : List ℕ) → done ≤ length part → n ≤ length free → take (done + n) (put_mid done k part free) ≡ take done part ++ take n free
-take_more done k n part free l m =
-    let rest = free ++ post_of done k part in
-    let behind = drop_at (take done part) rest done (length-take-le done part l) in
-    let all = put_mid done k part free in
-    take-add done n all ∙ ap (λ bs. bs ++ take n (drop done all)) (take-put_mid_below done k part free done (le_refl done) l)
-    ∙ ap (λ bs. take done part ++ take n bs) behind ∙ ap (λ bs. take done part ++ bs) (take-append-le n free (post_of done k part) m)
+module _ (a b c : Option (List ℕ)) (done more : ℕ) (part : List ℕ) (h : Consumes a b (take done part)) (l : done ≤ length part) where
+  goes_on : (n : ℕ) (t : Bool) → n ≤ length (drop done part) → Consumes b c (take n (drop done part)) → ◌≡◌ {A = Progress} (Continue more) (cond t (Break (Ok done)) (Continue (done + n)))
+      → (more ≤ length part) × Consumes a c (take more part)
+  goes_on n true m k on = cc
+  goes_on n false m k on =
+      let is : more ≡ done + n = cc in
+      let room : length (drop done part) ≡ length part - done = length-drop done part in
+      (omega arith, subst (Consumes a c) (sym (ap (λ (i : ℕ). take i part) is ∙ take-add done n part)) (Consumes-trans a b c _ _ h k))
 
-pub took_more : (a b c : Option (List ℕ)) (done k n : ℕ) (part free : List ℕ) → done ≤ length part → n ≤ length free → Consumes a b (take done part) → Consumes b c (take n free)
-    → Consumes a c (take (done + n) (put_mid done k part free))
-took_more a b c done k n part free l m p q = subst (Consumes a c) (sym (take_more done k n part free l m)) (Consumes-trans a b c _ _ p q)
+  goes_on_by : (got : Result ℕ Error) → ReadsAtMost got (drop done part) → ReadConsumes b c got (drop done part) → ◌≡◌ {A = Progress} (Continue more) (after_read done got)
+      → (more ≤ length part) × Consumes a c (take more part)
+  goes_on_by (Ok n) m k on = goes_on n (eqb n 0) m.0 k.0 on
+  goes_on_by (Err e) m k on = cc
+
+-- one read more of a part that goes on
+pub took_on : (a b c : Option (List ℕ)) (done more : ℕ) (given part : List ℕ) (p : Progress) → done < length given → GoesOn b c done given part p
+    → p ≡ Continue more → Consumes a b (take done given) → (more ≤ length part) × Consumes a c (take more part)
+took_on a b c done more given part p l (got, behind, read, made) on h =
+    let long = behind.same_length in
+    goes_on_by a b c done more part (subst (Consumes a b) (sym behind.kept) h) (omega arith) got behind.bound read (sym on ∙ made)

@@ -1,8 +1,9 @@
 -- The page that the records of an input of known bytes make, record by record. Assumes nothing.
-use Rattle.std.proofs.Common.{◌≡◌, ℕ, ◌+◌, ◌≤◌, ◌<◌, List, [], ◌∷◌, ◌++◌, length, take, drop, slice_index, Option, None, Some, IfSome, Result, Ok, Err}
-use Rattle.std.proofs.Common.{refl, sym, ap, ◌∙◌, arith, inl, inr, length-append, append-nil}
+use Rattle.std.proofs.Common.{◌≡◌, ℕ, ◌+◌, ◌≤◌, ◌<◌, List, [], ◌∷◌, ◌++◌, length, take, drop, slice_index, Option, None, Some, IfSome, IfOk, Result, Ok, Err}
+use Rattle.std.proofs.Common.{Continue, Break, refl, sym, ap, ◌∙◌, subst, arith, inl, inr, length-append, append-nil}
 use Rattle.std.specs.Bool.{⊤}
 use Rattle.std.specs.Io.KnownBytes.{Consumes, IsAtEnd}
+use Rattle.std.specs.declared.io.Error.{Error}
 use Rattle.std.proofs.lemmas.List.{take_at, drop_at}
 use Rattle.encoding.specs.Bytes.{le}
 use Rattle.pages.specs.Page.{Page}
@@ -10,13 +11,14 @@ use Rattle.pages.specs.Calls.{answer_to}
 use Rattle.amounts.specs.Decline.{Answer, value_or, verdict_of}
 use Rattle.streams.specs.Record.{RecordTook, IsCut, size_of}
 use Rattle.streams.specs.declared.record.Record.{Record}
+use Rattle.streams.specs.declared.record.RecordError.{RecordError}
 use Rattle.streams.specs.declared.record.RecordError.TheVariants as read
 use Rattle.records.specs.Records.{Recorded, call, malformed, record_of, span_of, bytes_of, first_of, rest_of, behind, records_in}
 use Rattle.records.specs.Batch.{refused, record_on}
 use Rattle.records.specs.declared.refusal.Refusal.{Refusal}
-use Rattle.records.specs.declared.refusal.Refusal.TheVariants.{Malformed}
+use Rattle.records.specs.declared.refusal.Refusal.TheVariants.{Declined, Malformed}
 use Rattle.records.proofs.record.Laws.{first_short, first_complete, records_first, records_end}
-use Rattle.write_run.specs.Run.{page_after}
+use Rattle.write_run.specs.Run.{Next, answer_at, behind_answer, made_by, what_follows, page_after}
 
 -- ---- the first record of bytes
 
@@ -82,10 +84,6 @@ pub makes_at_start : (input : Option (List ℕ)) (p : Page) → Makes input inpu
 makes_at_start None p = tt
 makes_at_start (Some s) p = refl
 
--- the answer to a record that was read, and the page after it
-abbrev pub answer_at : Page → Record → Result Page Refusal
-answer_at p r = record_on p (record_of r.tag r.body.now)
-
 first_read : (before rest : List ℕ) (room : ℕ) (r : Record) → RecordTook (Some before) (Some rest) room (Ok (Some r))
     → records_in before ≡ record_of r.tag r.body.now ∷ behind (record_of r.tag r.body.now) (records_in rest)
 first_read before rest room r (_, (head, is, took)) = ap records_in took ∙ whole_is_first r.tag head r.body.now rest is.three is.tag is.size
@@ -98,7 +96,7 @@ none_left : (p : Page) → page_after p [] ≡ p
 unfolding page_after
 none_left p = refl
 
-pub makes_on : (input before after : Option (List ℕ)) (p q q' : Page) (room : ℕ) (r : Record) (v : Result Unit Refusal) → Makes input before p q
+makes_on : (input before after : Option (List ℕ)) (p q q' : Page) (room : ℕ) (r : Record) (v : Result Unit Refusal) → Makes input before p q
     → RecordTook before after room (Ok (Some r)) → v ≡ verdict_of (answer_at q r) → (v ≡ Err Malformed → ⊥) → q' ≡ value_or q (answer_at q r) → Makes input after p q'
 makes_on None before after p q q' room r v h took told other is = tt
 makes_on (Some s) None after p q q' room r v h took told other is = absurd h
@@ -109,7 +107,7 @@ makes_on (Some s) (Some rest) (Some left) p q q' room r v h took told other is =
     ap (λ x. page_after x (records_in left)) is ∙ sym (step q first (records_in left)) ∙ sym (ap (page_after q) next) ∙ h
 
 -- a record that is told as malformed is the last, and leaves the page
-pub made_malformed : (input before after : Option (List ℕ)) (p q q' : Page) (room : ℕ) (r : Record) → Makes input before p q → RecordTook before after room (Ok (Some r))
+made_malformed : (input before after : Option (List ℕ)) (p q q' : Page) (room : ℕ) (r : Record) → Makes input before p q → RecordTook before after room (Ok (Some r))
     → Err Malformed ≡ verdict_of (answer_at q r) → q' ≡ value_or q (answer_at q r) → Made input p q'
 made_malformed None before after p q q' room r h took told is = tt
 made_malformed (Some s) None after p q q' room r h took told is = absurd h
@@ -120,7 +118,7 @@ made_malformed (Some s) (Some rest) (Some left) p q q' room r h took told is =
     is ∙ ap (λ x. value_or q (record_on q x)) first ∙ sym (none_left q) ∙ sym (step q malformed []) ∙ sym (ap (page_after q) only) ∙ h
 
 -- so is one that is cut short; none has a length that there is no room for
-pub made_cut : (input before after : Option (List ℕ)) (p q : Page) (room : ℕ) → 65536 ≤ room → Makes input before p q → RecordTook before after room (Err read.Malformed)
+made_cut : (input before after : Option (List ℕ)) (p q : Page) (room : ℕ) → 65536 ≤ room → Makes input before p q → RecordTook before after room (Err read.Malformed)
     → Made input p q
 made_cut None before after p q room wide h took = tt
 made_cut (Some s) None after p q room wide h took = absurd h
@@ -134,10 +132,50 @@ made_cut (Some s) (Some rest) (Some left) p q room wide h (bytes, took, why) = e
         sym (none_left q) ∙ sym (step q malformed []) ∙ sym (ap (page_after q) only) ∙ h
 
 -- nothing is left at the end
-pub made_at_end : (input before after : Option (List ℕ)) (p q : Page) → Makes input before p q → Consumes before after [] → IsAtEnd after → Made input p q
+made_at_end : (input before after : Option (List ℕ)) (p q : Page) → Makes input before p q → Consumes before after [] → IsAtEnd after → Made input p q
 made_at_end None before after p q h took end = tt
 made_at_end (Some s) None after p q h took end = absurd h
 made_at_end (Some s) (Some rest) None p q h took end = absurd took
 made_at_end (Some s) (Some rest) (Some left) p q h took end =
     let none : rest ≡ [] = took ∙ end in
     sym (none_left q) ∙ sym (ap (λ l. page_after q (records_in l)) none ∙ ap (page_after q) (records_end [] refl)) ∙ h
+
+-- ---- what follows a record that was read, or what there was in its place
+
+leaves_others : (a : Result Page Refusal) (u : Unit) → ◌≡◌ {A = Next} (behind_answer a) (Continue u) → verdict_of a ≡ Err Malformed → ⊥
+leaves_others (Ok p) u on e = cc
+leaves_others (Err (Declined d)) u on e = cc
+leaves_others (Err Malformed) u on e = cc
+
+ends_others : (a : Result Page Refusal) (end : Result Unit Error) → ◌≡◌ {A = Next} (behind_answer a) (Break end) → Err Malformed ≡ verdict_of a
+ends_others (Ok p) end over = cc
+ends_others (Err (Declined d)) end over = cc
+ends_others (Err Malformed) end over = refl
+
+makes_behind : (input before after : Option (List ℕ)) (p q : Page) (room : ℕ) (r : Result (Option Record) RecordError) (u : Unit) → Makes input before p q
+    → RecordTook before after room r → ◌≡◌ {A = Next} (what_follows q r) (Continue u) → Makes input after p (made_by q r)
+makes_behind input before after p q room (Ok (Some r)) u h took on =
+    let a = answer_at q r in
+    makes_on input before after p q _ room r (verdict_of a) h took refl (leaves_others a u on) refl
+makes_behind input before after p q room (Ok None) u h took on = cc
+makes_behind input before after p q room (Err read.Malformed) u h took on = cc
+makes_behind input before after p q room (Err (read.Unread e)) u h took on = cc
+
+made_behind : (input before after : Option (List ℕ)) (p q : Page) (room : ℕ) (r : Result (Option Record) RecordError) (end : Result Unit Error) → 65536 ≤ room
+    → Makes input before p q → RecordTook before after room r → ◌≡◌ {A = Next} (what_follows q r) (Break end) → IfOk end (λ _. Made input p (made_by q r))
+made_behind input before after p q room r (Err e) wide h took over = tt
+made_behind input before after p q room (Ok (Some r)) (Ok u) wide h took over =
+    let a = answer_at q r in
+    made_malformed input before after p q _ room r h took (ends_others a (Ok u) over) refl
+made_behind input before after p q room (Ok None) (Ok u) wide h took over = made_at_end input before after p q h took.0 took.1
+made_behind input before after p q room (Err read.Malformed) (Ok u) wide h took over = made_cut input before after p q room wide h took
+made_behind input before after p q room (Err (read.Unread e)) (Ok u) wide h took over = cc
+
+module _ (input before after : Option (List ℕ)) (p q q' : Page) (room : ℕ) (r : Result (Option Record) RecordError) (next : Next) (h : Makes input before p q)
+    (took : RecordTook before after room r) (made : q' ≡ made_by q r) (follows : next ≡ what_follows q r) where
+  pub makes_more : (u : Unit) → ◌≡◌ {A = Next} next (Continue u) → Makes input after p q'
+  makes_more u on = subst (Makes input after p) (sym made) (makes_behind input before after p q room r u h took (sym follows ∙ on))
+
+  pub made_all : (end : Result Unit Error) → 65536 ≤ room → ◌≡◌ {A = Next} next (Break end) → IfOk end (λ _. Made input p q')
+  made_all end wide over =
+      subst (λ (x : Page). IfOk end (λ _. Made input p x)) (sym made) (made_behind input before after p q room r end wide h took (sym follows ∙ over))
