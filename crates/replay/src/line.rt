@@ -19,10 +19,11 @@ pub(crate) fn block<W: Write>(out: &mut Output<W>, answer: Result<(), Decline>) 
 }
 
 pub(crate) fn stock<W: Write>(out: &mut Output<W>, answer: Result<i64, Decline>) -> io::Result<()> {
+    write!(out, "stock ")?;
     match answer {
-        Ok(0) => writeln!(out, "stock 0"),
-        Ok(grams) => writeln!(out, "stock {grams:+}"),
-        Err(decline) => writeln!(out, "stock declined {decline}"),
+        Ok(0) => writeln!(out, "{}", 0),
+        Ok(grams) => writeln!(out, "{grams:+}"),
+        Err(decline) => writeln!(out, "declined {decline}"),
     }
 }
 
@@ -36,8 +37,8 @@ fn known<W: Write>(out: &mut Output<W>, r: Report) -> io::Result<()> {
         fate,
         filed,
     } = r;
-    let due = if due { 'Y' } else { 'N' };
-    write!(out, " {posts} {number} {handled} {due} {store}")?;
+    let due = if due { " Y" } else { " N" };
+    write!(out, " {posts} {number} {handled}{due} {store}")?;
     write!(
         out,
         " {} {} {} {}",
@@ -45,9 +46,10 @@ fn known<W: Write>(out: &mut Output<W>, r: Report) -> io::Result<()> {
     )?;
     write!(out, " {}", fate.headings)?;
     match filed {
-        Some(figures) => writeln!(out, " {figures}"),
-        None => writeln!(out, " - - - - - -"),
+        Some(figures) => write!(out, " {figures}")?,
+        None => write!(out, " - - - - - -")?,
     }
+    writeln!(out)
 }
 
 pub(crate) fn report<W: Write>(
@@ -55,7 +57,8 @@ pub(crate) fn report<W: Write>(
     place: u8,
     answer: Result<Report, Decline>,
 ) -> io::Result<()> {
-    write!(out, "report {place}")?;
+    write!(out, "report")?;
+    write!(out, " {place}")?;
     match answer {
         Ok(report) => known(out, report),
         Err(decline) => writeln!(out, " {decline}"),

@@ -7,3 +7,4 @@ pub mod record;
 #[cfg(test)]
 mod tests;
 pub mod trouble;
+pub mod writing;

@@ -4,6 +4,7 @@ ghost use Rattle.std.specs.Io.{WritesAtMost};
 ghost use Rattle.std.specs.Io.KnownBytes.{Appends, Keeps, WriteAppends};
 ghost use Rattle.streams.specs.Output.{Stays, has_failed, writer_of, bytes_in};
 
+use crate::writing;
 use std::fmt::Display;
 use std::io;
 use std::io::{ErrorKind, Write};
@@ -82,18 +83,15 @@ impl<W: Write> Write for Output<W> {
         flushed
     }
 
-    /// A write that a signal interrupts has failed, and isn't tried again. The loop goes on by what a write took, and no iterator has that.
+    /// A write that a signal interrupts has failed, and isn't tried again.
     fn write_all(&mut self, bytes: &[u8]) -> io::Result<()>
         ensures bytes { OnOk result (Appends (bytes_in W.contents self.old) (bytes_in W.contents self.new) bytes.now) }
         ensures told { has_failed self.new ≡ is_err result }
         ensures stays { Stays self.old result self.new }
     {
         self.check()?;
-        let mut rest = bytes;
-        while !rest.is_empty() {
-            let n = self.write(rest)?;
-            rest = &rest[n..];
-        }
-        Ok(())
+        let all = writing::all(&mut self.to, bytes);
+        self.has_failed = all.is_err();
+        all
     }
 }

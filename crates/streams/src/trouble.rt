@@ -3,6 +3,7 @@ ghost use Rattle.std.specs.Prelude.{OnOk};
 ghost use Rattle.std.specs.Io.KnownBytes.{Appends};
 ghost use Rattle.streams.specs.Trouble.{line_of};
 
+use crate::writing;
 use std::error::Error;
 use std::io::Write;
 use std::{fmt, io};
@@ -35,11 +36,11 @@ impl Trouble {
     pub fn tell<E: Write>(self, program: &str, errors: &mut E) -> io::Result<()>
         ensures { OnOk result (Appends (E.contents errors.old) (E.contents errors.new) (line_of program.now self)) }
     {
-        let name = errors.write_all(program.as_bytes());
+        let name = writing::all(errors, program.as_bytes());
         match self {
-            Trouble::Unread => name.and(errors.write_all(b": standard input can't be read\n")),
+            Trouble::Unread => name.and(writing::all(errors, b": standard input can't be read\n")),
             Trouble::Unwritten => {
-                name.and(errors.write_all(b": standard output can't be written\n"))
+                name.and(writing::all(errors, b": standard output can't be written\n"))
             }
         }
     }

@@ -16,23 +16,24 @@ use streams::input::Input;
 use streams::output::Output;
 use streams::record::{Record, RecordError};
 use streams::trouble::Trouble;
+use streams::writing;
 use writer::writer::Writer;
 
 /// The line of a record that isn't taken. Each piece is tried, whatever became of the one before.
 fn tell<E: Write>(errors: &mut E, place: u64, refusal: Refusal) -> io::Result<()>
     ensures { OnOk result (Appends (E.contents errors.old) (E.contents errors.new) (line_of place refusal)) }
 {
-    let name = errors.write_all(b"record ");
-    let number = write!(errors, "{place}");
+    let name = writing::all(errors, b"record ");
+    let number = writing::number(errors, place);
     match refusal {
         Refusal::Declined(decline) => {
-            let space = errors.write_all(b" ");
-            let why = write!(errors, "{decline}");
-            let end = errors.write_all(b"\n");
+            let space = writing::all(errors, b" ");
+            let why = writing::number(errors, u64::from(decline.number()));
+            let end = writing::all(errors, b"\n");
             name.and(number).and(space).and(why).and(end)
         }
         Refusal::Malformed => {
-            let end = errors.write_all(b" malformed\n");
+            let end = writing::all(errors, b" malformed\n");
             name.and(number).and(end)
         }
     }
