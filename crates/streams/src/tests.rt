@@ -140,3 +140,15 @@ fn tells_what_failed_behind_a_name_that_failed(rt: HostRuntime) {
     assert!(rt; told.is_err());
     assert_eq!(rt; to.calls, 1 + 31);
 }
+
+#[test]
+fn copies_inputs_and_outputs(rt: HostRuntime) {
+    let input = Input::new(rt.stdin());
+    for mut copy in [input, input] {
+        assert!(rt; matches!(copy.read_part(&mut []), Ok(0)));
+    }
+    let output = Output::new(rt.stdout());
+    for mut copy in [output, output] {
+        assert!(rt; copy.write_all(&[]).is_ok());
+    }
+}
