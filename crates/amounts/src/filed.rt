@@ -9,70 +9,46 @@ pub struct Case {
     pub step: u64,
 }
 
-// From which amount a case holds, up to that of the next row, and its step, both in micrograms.
-struct Row {
-    from: u64,
-    step: u64,
-}
-
-// The eleven cases: below 10^10 micrograms, then one a decade, the last from 10^19.
-const ROWS: [Row; 11] = [
-    Row {
-        from: 0,
-        step: 100_000_000,
-    },
-    Row {
-        from: 10_000_000_000,
-        step: 1_000_000_000,
-    },
-    Row {
-        from: 100_000_000_000,
-        step: 10_000_000_000,
-    },
-    Row {
-        from: 1_000_000_000_000,
-        step: 100_000_000_000,
-    },
-    Row {
-        from: 10_000_000_000_000,
-        step: 1_000_000_000_000,
-    },
-    Row {
-        from: 100_000_000_000_000,
-        step: 10_000_000_000_000,
-    },
-    Row {
-        from: 1_000_000_000_000_000,
-        step: 100_000_000_000_000,
-    },
-    Row {
-        from: 10_000_000_000_000_000,
-        step: 1_000_000_000_000_000,
-    },
-    Row {
-        from: 100_000_000_000_000_000,
-        step: 10_000_000_000_000_000,
-    },
-    Row {
-        from: 1_000_000_000_000_000_000,
-        step: 100_000_000_000_000_000,
-    },
-    Row {
-        from: 10_000_000_000_000_000_000,
-        step: 1_000_000_000_000_000_000,
-    },
+// The amounts from which the cases hold, the first case aside, which holds below them: from 10^10 micrograms one a decade, the last from 10^19.
+const BOUNDS: [u64; 10] = [
+    10_000_000_000, // from 10 kg
+    100_000_000_000, // from 100 kg
+    1_000_000_000_000, // from 1 t
+    10_000_000_000_000, // from 10 t
+    100_000_000_000_000, // from 100 t
+    1_000_000_000_000_000, // from 1,000 t
+    10_000_000_000_000_000, // from 10,000 t
+    100_000_000_000_000_000, // from 100,000 t
+    1_000_000_000_000_000_000, // from 1,000,000 t
+    10_000_000_000_000_000_000, // from 10,000,000 t
 ];
 
-// The case of an amount in micrograms: that of the last row which it reaches. The search halves the rows, without a jump for each, which a `match` on their
+// The steps of the eleven cases, in micrograms.
+const STEPS: [u64; 11] = [
+    100_000_000, // case 0: steps of 0.1 kg
+    1_000_000_000, // case 1: steps of 1 kg
+    10_000_000_000, // case 2: steps of 10 kg
+    100_000_000_000, // case 3: steps of 100 kg
+    1_000_000_000_000, // case 4: steps of 1 t
+    10_000_000_000_000, // case 5: steps of 10 t
+    100_000_000_000_000, // case 6: steps of 100 t
+    1_000_000_000_000_000, // case 7: steps of 1,000 t
+    10_000_000_000_000_000, // case 8: steps of 10,000 t
+    100_000_000_000_000_000, // case 9: steps of 100,000 t
+    1_000_000_000_000_000_000, // case 10: steps of 1,000,000 t
+];
+
+// The case of an amount in micrograms: that of the last bound which it reaches. The search halves the bounds, without a jump for each, which a `match` on their
 // ranges makes: those jumps take longer than all else that a step is had by.
 pub fn case_of(amount: u64) -> Case
     ensures { result ≡ case_of amount }
 {
-    let rows = &ROWS;
-    let number = rows.partition_point(|row| row.from <= amount) - 1;
+    let bounds = &BOUNDS;
+    let steps = &STEPS;
+    let number = bounds.partition_point(|from| *from <= amount);
     Case {
         number: number as u8,
-        step: rows[number].step,
+        step: steps[number],
     }
 }
 
