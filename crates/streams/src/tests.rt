@@ -139,6 +139,11 @@ fn tells_what_failed_behind_a_name_that_failed(rt: HostRuntime) {
     let told = Trouble::Unread.tell("filing", &mut to);
     assert!(rt; told.is_err());
     assert_eq!(rt; to.calls, 1 + 31);
+    // An interrupted write isn't made again: each piece is given up, and the next one tried.
+    let mut to = Faulty::new(0, u32::MAX, ErrorKind::Interrupted);
+    let told = Trouble::Unread.tell("filing", &mut to);
+    assert!(rt; told.is_err());
+    assert_eq!(rt; to.calls, 2);
 }
 
 #[test]
