@@ -7,7 +7,7 @@ use std::io;
 use std::path::{Path, PathBuf};
 use std::process::{Command, Output, Stdio};
 
-use blocks::BLOCK;
+use blocks::{record, BLOCK};
 use trials::c;
 use trials::calls::List;
 use trials::lists;
@@ -328,4 +328,57 @@ fn write_never_writes_from_a_failed_read() {
         }
     }
     say(&format!("write: {runs} runs with reads that fail"));
+}
+
+/// A program's lines on standard error, piece by piece: each is tried, whatever became of the one before, and none is made again.
+fn pieces_told(name: &str, library: &Path, input: &Path, pieces: &[&str]) -> u64 {
+    let program = program::built(name);
+    let mut runs = 0;
+    for first in 1..=pieces.len() as u64 + 1 {
+        for times in [1, 2, u64::MAX] {
+            for error in [EIO, EINTR, EAGAIN] {
+                let mut command = Command::new(&program);
+                command
+                    .env("LD_PRELOAD", library)
+                    .env("TELL_FIRST", first.to_string())
+                    .env("TELL_TIMES", times.to_string())
+                    .env("TELL_ERROR", error.to_string());
+                let out = run(&mut command, open(input));
+                let fails = |place: u64| place >= first && place - first < times;
+                let told = (1..)
+                    .zip(pieces)
+                    .filter(|(place, _)| !fails(*place))
+                    .map(|(_, piece)| *piece);
+                let what = format!("{name}, {times} times from {first}, {error}");
+                expect(&what, &out, b"", &told.collect::<String>());
+                runs += 1;
+            }
+        }
+    }
+    runs
+}
+
+#[test]
+fn a_line_goes_on_behind_a_piece_that_fails() {
+    let library = preloaded("told.so");
+    let folder = Path::new(env!("CARGO_MANIFEST_DIR"));
+    let mut runs = 0;
+    for name in ["filing", "write", "replay"] {
+        runs += pieces_told(
+            name,
+            &library,
+            folder,
+            &[name, ": standard input can't be read\n"],
+        );
+    }
+    let mut records = Vec::new();
+    record(&mut records, b'S', &[9]);
+    record(&mut records, b'P', &[]);
+    record(&mut records, b'Z', &[]);
+    let input = file("refused.records", &records);
+    let declined = |place, decline| ["record ", place, " ", decline, "\n"];
+    let malformed = ["record ", "2", " malformed\n"];
+    let pieces = [&declined("0", "6")[..], &declined("1", "4"), &malformed[..]];
+    runs += pieces_told("write", &library, &input, &pieces.concat());
+    say(&format!("lines: {runs} runs with writes that fail"));
 }

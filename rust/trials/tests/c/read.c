@@ -1,4 +1,4 @@
-/* A read of standard input that answers at most so many bytes, and from one call on fails so many times with an error. */
+/* A read of standard input that answers at most so many bytes, and from one call on fails so many times with an error; a write to standard error that does. */
 #define _GNU_SOURCE
 #include <errno.h>
 #include <stdlib.h>
@@ -27,4 +27,18 @@ ssize_t read(int fd, void *buffer, size_t size)
             size = most;
     }
     return syscall(SYS_read, fd, buffer, size);
+}
+
+ssize_t write(int fd, const void *buffer, size_t size)
+{
+    static unsigned long calls;
+    if (fd == STDERR_FILENO) {
+        unsigned long first = setting("TELL_FIRST");
+        calls++;
+        if (first && calls >= first && calls - first < setting("TELL_TIMES")) {
+            errno = (int)setting("TELL_ERROR");
+            return -1;
+        }
+    }
+    return syscall(SYS_write, fd, buffer, size);
 }
