@@ -41,7 +41,8 @@ read_behind a b c (Err e) part p q = Keeps-trans a b c p q
 -- ---- a part
 
 module _ (a b c : Option (List ℕ)) (done more : ℕ) (part : List ℕ) (h : Consumes a b (take done part)) (l : done ≤ length part) where
-  goes_on : (n : ℕ) (t : Bool) → n ≤ length (drop done part) → Consumes b c (take n (drop done part)) → ◌≡◌ {A = Progress} (Continue more) (cond t (Break (Ok done)) (Continue (done + n)))
+  goes_on : (n : ℕ) (t : Bool) → n ≤ length (drop done part) → Consumes b c (take n (drop done part))
+      → ◌≡◌ {A = Progress} (Continue more) (cond t (Break (Ok done)) (Continue (done + n)))
       → (more ≤ length part) × Consumes a c (take more part)
   goes_on n true m k on = cc
   goes_on n false m k on =
